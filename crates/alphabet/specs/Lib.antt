@@ -1,0 +1,4 @@
+pub mod Causes
+pub mod Model
+pub mod Questions
+pub mod Laws

@@ -1,0 +1,1 @@
+// Abstract transducers: what they do to a text, and the order of texts.
