@@ -9,6 +9,8 @@ ghost use Rattle.alphabet.specs.Laws.{Lawful};
 pub mod cause;
 
 pub use cause::Cause;
+pub use cause::CauseDebug;
+pub use cause::CausePartialEq;
 
 // An alphabet. A symbol is a number below its size, a guard a set of symbols, a term a function from some symbols to
 // symbols. Guards and terms may hold any numbers: the two checks say which are sound, and the other questions are put

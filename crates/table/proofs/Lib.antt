@@ -1,0 +1,4 @@
+pub mod Turns
+pub mod Outputs
+pub mod Overlaps
+pub mod Rules

@@ -1,0 +1,21 @@
+use mathlib.Core.Path.{_≡_, sym, _∙_}
+use Prim.Native.Nat.{_≤_}
+use native.Mathlib.Omega.{arith}
+use lib.ListN.{length}
+use Rattle.std.proofs.shelf.Ways.{tells}
+use Rattle.table.proofs.Rules.{rules-sound}
+use Rattle.table.proofs.entries.Draft.check.Needs as need
+
+pub check-rule-outputs-requires : need.check-rule-outputs-requires
+check-rule-outputs-requires g c κs =
+    let limits = sym (c .check-limits .ensures) ∙ c .in-Continue-check-limits .was tt in
+    let few : length (c .args .self .now .outputs .now) ≤ 4096 = grind (arith, tells, limits) in
+    record {
+      sound = rules-sound (g .A·Alphabet .model) _ _ (c .args .self .now .rules .now) (sym (c .check-rules .ensures) ∙ c .in-Continue-check-rules .was tt);
+      count = omega arith;
+      few = few;
+    }
+
+pub check-overlaps-requires : need.check-overlaps-requires
+check-overlaps-requires g c κs =
+    rules-sound (g .A·Alphabet .model) _ _ (c .args .self .now .rules .now) (sym (c .check-rules .ensures) ∙ c .in-Continue-check-rules .was tt)

@@ -1,0 +1,10 @@
+// Tables of filters: their entries, their faults, and the check that finds the first fault of any three lists.
+pub mod check;
+pub mod entries;
+pub mod fault;
+
+pub use entries::Draft;
+pub use entries::Rule;
+pub use entries::State;
+pub use fault::FaultCode;
+pub use fault::TableFault;
