@@ -1,2 +1,12 @@
 pub mod Machine
 pub mod Shortlex
+pub mod Sides
+pub mod Lag
+pub mod Compared
+pub mod Covered
+pub mod Terms
+pub mod Explored
+pub mod Texts
+pub mod Composed
+pub mod Theorems
+pub mod Walk

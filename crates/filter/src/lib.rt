@@ -1,0 +1,2 @@
+// Filters at work: finding rules, walking along a text, and transducing.
+pub mod walk;

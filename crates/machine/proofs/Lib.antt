@@ -1,0 +1,12 @@
+pub mod Runs
+pub mod Lags
+pub mod Orders
+pub mod Covers
+pub mod Words
+pub mod Idles
+pub mod Explores
+pub mod Turns
+pub mod Texts
+pub mod Pigeons
+pub mod Composed
+pub mod Walks
