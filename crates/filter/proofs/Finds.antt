@@ -71,10 +71,11 @@ module _ {G T : Type 0} (m : Model G T) (p s : ℕ) where
         from = omega (arith, ap (λ (x : Found). x .from) h);
         to = omega (arith, ap (λ (x : Found). x .from) h, ap (λ (x : Found). x .to) h);
         part =
-          let a : f .from ≡ k = ap (λ (x : Found). x .from) h in
-          let z : f .to - f .from ≡ r .outputs = omega (arith, ap (λ (x : Found). x .from) h, ap (λ (x : Found). x .to) h) in
-          rw (z, a);
+            let a : f .from ≡ k = ap (λ (x : Found). x .from) h in
+            let z : f .to - f .from ≡ r .outputs = omega (arith, ap (λ (x : Found). x .from) h, ap (λ (x : Found). x .to) h) in
+            rw (z, a);
       }
+
       later : applies m p s r ≡ false → Picked ts rs (i + 1) (k + r .outputs) f → Picked ts (r ∷ rs) i k f
       later b P = record {
         j = suc (P .j);
@@ -87,6 +88,7 @@ module _ {G T : Type 0} (m : Model G T) (p s : ℕ) where
         to = P .to;
         part = ap (stretch (λ (x : Rule G). x .outputs) rs (P .j)) (drop-drop (r .outputs) k ts) ∙ P .part;
       }
+
       go : (b : Bool) → applies m p s r ≡ b → (found m p s (i + 1) (k + r .outputs) rs ≡ Some f → Picked ts rs (i + 1) (k + r .outputs) f) → cond b (Some (record { rule = i; next = r .next; from = k; to = k + r .outputs })) (found m p s (i + 1) (k + r .outputs) rs) ≡ Some f → Picked ts (r ∷ rs) i k f
       go true b ih h = here b (cc)
       go false b ih h = later b (ih h)
@@ -104,10 +106,10 @@ module _ {G T : Type 0} (m : Model G T) (p s : ℕ) where
         let all : All (SoundTerm m) (ruleOutputs F (P .j)) = all-weaker (Suits m (P .rule .guard)) (SoundTerm m) (λ t h. h .0) (ruleOutputs F (P .j)) (S .output (P .j) (P .rule) (P .is)) in
         record {
           steps =
-            ap (λ o. andThen o (λ x. Some (x .1 .next, valuesOf m (ruleOutputs F (x .0)) s))) (P .picked)
-            ∙ ap (λ n. Some (n, valuesOf m (ruleOutputs F (f .rule)) s)) (sym (P .next))
-            ∙ ap (λ i. Some (f .next, valuesOf m (ruleOutputs F i) s)) (sym same)
-            ∙ ap (λ l. Some (f .next, valuesOf m l s)) part;
+              ap (λ o. andThen o (λ x. Some (x .1 .next, valuesOf m (ruleOutputs F (x .0)) s))) (P .picked)
+              ∙ ap (λ n. Some (n, valuesOf m (ruleOutputs F (f .rule)) s)) (sym (P .next))
+              ∙ ap (λ i. Some (f .next, valuesOf m (ruleOutputs F i) s)) (sym same)
+              ∙ ap (λ l. Some (f .next, valuesOf m l s)) part;
           ordered = omega (arith, P .to);
           within = omega (arith, P .from, P .to, S .counts, total-upto (λ (r : Rule G). r .outputs) (F .rules) (P .j) (P .rule) (P .is));
           few = omega (arith, P .to, S .short-output (P .j) (P .rule) (P .is));

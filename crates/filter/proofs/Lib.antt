@@ -1,2 +1,4 @@
 pub mod Emits
 pub mod Finds
+pub mod Finals
+pub mod Puts

@@ -8,11 +8,10 @@ ghost use Rattle.alphabet.specs.Model.{SoundTerm};
 ghost use Rattle.table.specs.Table.{tableOf, finalTotal};
 ghost use Rattle.table.specs.Sound.{Sound};
 ghost use Rattle.filter.specs.Machines.{valuesOf, machineOf, found, Finds};
-ghost use Rattle.filter.specs.Outcomes.{put, walked};
+ghost use Rattle.filter.specs.Outcomes.{put, walked, behind, finished};
 use alphabet::Alphabet;
 use table::Draft;
-use table::Rule;
-use table::State;
+use table::final_total;
 
 // A rule that applies: its number, where it leads, and where its outputs stand in the output list.
 #[derive(Clone, Copy)]
@@ -39,7 +38,12 @@ pub fn find<A: Alphabet>(
     for (number, rule) in draft.rules.iter().enumerate() {
         let to = from + rule.outputs as usize;
         if rule.state == state && A::holds(rule.guard, symbol) {
-            return Some(Found { rule: number, next: rule.next, from, to });
+            return Some(Found {
+                rule: number,
+                next: rule.next,
+                from,
+                to,
+            });
         }
         from = to;
     }
@@ -57,7 +61,7 @@ fn write_at(out: &mut [u32], place: usize, symbol: u32)
 
 // Writes the values of terms at a symbol into the output from a place on, as far as it reaches, and answers the place
 // behind them.
-fn emit<A: Alphabet>(terms: &[A::Term], symbol: u32, out: &mut [u32], at: usize) -> usize
+pub fn emit<A: Alphabet>(terms: &[A::Term], symbol: u32, out: &mut [u32], at: usize) -> usize
     requires sound { ⌜ All (SoundTerm model) (now terms) ⌝ }
     requires fits { ⌜ at + length (now terms) < 2 ^ 64 ⌝ }
     ensures count { λ r. ⌜ r ≡ at + length (valuesOf model (now (terms .entry)) symbol) ⌝ }
@@ -71,4 +75,57 @@ fn emit<A: Alphabet>(terms: &[A::Term], symbol: u32, out: &mut [u32], at: usize)
         }
     }
     place
+}
+
+// Writes the final output of a state from a place on, as far as the output reaches, and answers the place behind it; or
+// none where the state rejects.
+pub fn finish<A: Alphabet>(
+    draft: &Draft<'_, A>,
+    state: u16,
+    out: &mut [u32],
+    at: usize,
+) -> Option<usize>
+    requires sound { ⌜ Sound model (tableOf (now draft)) ⌝ }
+    requires fits { ⌜ at ≤ 2 ^ 63 ⌝ }
+    ensures answer { λ r. ⌜ r ≡ behind at (machineOf model (tableOf (now (draft .entry))) .final state) ⌝ }
+    ensures output { λ _. ⌜ now (out .exit) ≡ finished at (machineOf model (tableOf (now (draft .entry))) .final state) (now (out .entry)) ⌝ }
+{
+    let state = state as usize;
+    if state >= draft.states.len() {
+        return None;
+    }
+    let entry = draft.states[state];
+    if entry.mark != 1 {
+        return None;
+    }
+    let from = final_total(&draft.states[0..state]);
+    let to = from + entry.finals as usize;
+    Some(emit::<A>(&draft.outputs[from..to], 0, out, at))
+}
+
+// Walks from a state along a text, writes as far as the output reaches, and answers the state reached and the number of
+// symbols written; or the position of the symbol that no rule holds.
+pub fn walk<A: Alphabet>(
+    draft: &Draft<'_, A>,
+    start: u16,
+    text: &[u32],
+    out: &mut [u32],
+) -> Result<(u16, usize), usize>
+    requires sound { ⌜ Sound model (tableOf (now draft)) ⌝ }
+    requires short { ⌜ length (now text) ≤ 1048576 ⌝ }
+    ensures answer { λ r. ⌜ r ≡ walked (machineOf model (tableOf (now (draft .entry)))) (now (text .entry)) start ⌝ }
+    ensures output { λ _. ⌜ now (out .exit) ≡ put 0 (written (machineOf model (tableOf (now (draft .entry)))) (now (text .entry)) start) (now (out .entry)) ⌝ }
+{
+    let first = final_total(draft.states);
+    let mut state = start;
+    let mut count = 0;
+    for (position, symbol) in text.iter().enumerate() {
+        let Some(found) = find(draft, first, state, *symbol) else {
+            return Err(position);
+        };
+        let Found { from, to, next, .. } = found;
+        count = emit::<A>(&draft.outputs[from..to], *symbol, out, count);
+        state = next;
+    }
+    Ok((state, count))
 }

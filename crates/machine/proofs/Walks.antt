@@ -53,6 +53,7 @@ module _ (m : Machine) (text : List ℕ) (start : ℕ) where
 
     pub along-end : length text ≤ i → (run m text start ≡ Some (q, w)) × (written m text start ≡ w)
     unfolding run written
-    along-end left =
-        (A .runs ∙ ap (moved w) (at-drop-all (λ t. run m t q) text i left) ∙ ap (λ x. Some (q, x)) (append-nil w),
-         A .wrote ∙ ap (λ t. w ++ t) (at-drop-all (λ t. written m t q) text i left) ∙ append-nil w)
+    along-end left = (
+      A .runs ∙ ap (moved w) (at-drop-all (λ t. run m t q) text i left) ∙ ap (λ x. Some (q, x)) (append-nil w),
+      A .wrote ∙ ap (λ t. w ++ t) (at-drop-all (λ t. written m t q) text i left) ∙ append-nil w,
+    )

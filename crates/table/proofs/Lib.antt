@@ -1,4 +1,9 @@
 pub mod Turns
 pub mod Outputs
 pub mod Overlaps
+pub mod Accepts
 pub mod Rules
+pub mod Places
+pub mod Stretches
+pub mod Decided
+pub mod Soundness

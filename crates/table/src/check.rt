@@ -212,6 +212,7 @@ impl<'a, A: Alphabet> Draft<'a, A> {
     // Whether the table is sound, else its first fault.
     pub fn check(&self) -> Result<(), TableFault>
         ensures first { λ r. ⌜ r ≡ checked model (tableOf (now (self .entry))) ⌝ }
+        ensures sound { λ r. ⌜ (r ≡ Ok tt → Sound model (tableOf (now (self .entry)))) × (Sound model (tableOf (now (self .entry))) → r ≡ Ok tt) ⌝ }
     {
         check_limits(self.states.len(), self.rules.len(), self.outputs.len())?;
         check_states(self.states)?;

@@ -3,6 +3,7 @@ pub mod check;
 pub mod entries;
 pub mod fault;
 
+pub use check::final_total;
 pub use entries::Draft;
 pub use entries::Rule;
 pub use entries::State;

@@ -27,15 +27,15 @@ loop-term-again g c =
     let more = values-more m (c .args .terms .now) (c .args .symbol) (c .loop-term .term-index) (c .term-item .result) (c .loop-term-test .taken) (c .term-item .is) in
     elim (c .match-value .came) [
       | in-Some w ↦
-        let e = more (Some (w .in-Some .value)) (sym (c .value .ensures) ∙ w .in-Some .is) in
-        let step : put (place + 1) rest (set out place (w .in-Some .value)) ≡ put (c .args .at) (valuesOf m (c .args .terms .now) (c .args .symbol)) (c .args .out .now) =
+          let e = more (Some (w .in-Some .value)) (sym (c .value .ensures) ∙ w .in-Some .is) in
+          let step : put (place + 1) rest (set out place (w .in-Some .value)) ≡ put (c .args .at) (valuesOf m (c .args .terms .now) (c .args .symbol)) (c .args .out .now) =
           ap (λ vs. put place vs out) (sym e) ∙ c .loop-term .inv .2 in
-        (omega arith, omega (arith, ap length e), cc)
+          (omega arith, omega (arith, ap length e), cc)
       | in-rest w ↦
-        let e = more None (sym (c .value .ensures) ∙ w .in-rest .is) in
-        let step : put place rest out ≡ put (c .args .at) (valuesOf m (c .args .terms .now) (c .args .symbol)) (c .args .out .now) =
+          let e = more None (sym (c .value .ensures) ∙ w .in-rest .is) in
+          let step : put place rest out ≡ put (c .args .at) (valuesOf m (c .args .terms .now) (c .args .symbol)) (c .args .out .now) =
           ap (λ vs. put place vs out) (sym e) ∙ c .loop-term .inv .2 in
-        (omega arith, omega (arith, ap length e), cc)
+          (omega arith, omega (arith, ap length e), cc)
     ]
 
 pub returns : need.returns

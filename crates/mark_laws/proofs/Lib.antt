@@ -1,0 +1,4 @@
+pub mod Bits
+pub mod Prime
+pub mod Laws
+pub mod Sets
