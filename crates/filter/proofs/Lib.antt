@@ -1,4 +1,9 @@
+pub mod Puts
 pub mod Emits
 pub mod Finds
 pub mod Finals
-pub mod Puts
+pub mod Moves
+pub mod Meanings
+pub mod Rejections
+pub mod Transduces
+pub mod Promises

@@ -1,6 +1,6 @@
 // The walk of a sound filter along a text.
 ghost use mathlib.Core.Path.{_≡_};
-ghost use Prim.Native.Nat.{ℕ, _+_, _-_, _^_, _<_, _≤_};
+ghost use Prim.Native.Nat.{ℕ, _+_, _-_, _*_, _^_, _<_, _≤_};
 ghost use lib.ListN.{length, take, drop, set};
 ghost use Rattle.std.specs.Finite.{All};
 ghost use Rattle.machine.specs.Walk.{written};
@@ -8,7 +8,7 @@ ghost use Rattle.alphabet.specs.Model.{SoundTerm};
 ghost use Rattle.table.specs.Table.{tableOf, finalTotal};
 ghost use Rattle.table.specs.Sound.{Sound};
 ghost use Rattle.filter.specs.Machines.{valuesOf, machineOf, found, Finds};
-ghost use Rattle.filter.specs.Outcomes.{put, walked, behind, finished};
+ghost use Rattle.filter.specs.Outcomes.{put, walked, CountWithin, behind, finished};
 use alphabet::Alphabet;
 use table::Draft;
 use table::final_total;
@@ -114,6 +114,7 @@ pub fn walk<A: Alphabet>(
     requires sound { ⌜ Sound model (tableOf (now draft)) ⌝ }
     requires short { ⌜ length (now text) ≤ 1048576 ⌝ }
     ensures answer { λ r. ⌜ r ≡ walked (machineOf model (tableOf (now (draft .entry)))) (now (text .entry)) start ⌝ }
+    ensures bound { λ r. ⌜ CountWithin (32 * length (now (text .entry))) r ⌝ }
     ensures output { λ _. ⌜ now (out .exit) ≡ put 0 (written (machineOf model (tableOf (now (draft .entry)))) (now (text .entry)) start) (now (out .entry)) ⌝ }
 {
     let first = final_total(draft.states);

@@ -57,3 +57,20 @@ module _ (m : Machine) (text : List ℕ) (start : ℕ) where
       A .runs ∙ ap (moved w) (at-drop-all (λ t. run m t q) text i left) ∙ ap (λ x. Some (q, x)) (append-nil w),
       A .wrote ∙ ap (λ t. w ++ t) (at-drop-all (λ t. written m t q) text i left) ∙ append-nil w,
     )
+
+-- a run that gets through reads the whole text, and what it writes is all that is written
+pub run-through : (m : Machine) (u : List ℕ) (q : ℕ) (r : ℕ × List ℕ) → run m u q ≡ Some r → (position m u q ≡ length u) × (written m u q ≡ r .1)
+unfolding run position written
+run-through m [] q r e = (refl, cc)
+run-through m (s ∷ u) q r e = step (m .step q s) (λ p t. run-through m u p t) e
+  where
+    later : (t v : ℕ × List ℕ) → moved (t .1) (Some v) ≡ Some r → (position m u (t .0) ≡ length u) × (written m u (t .0) ≡ v .1) → (1 + position m u (t .0) ≡ length (s ∷ u)) × (t .1 ++ written m u (t .0) ≡ r .1)
+    later t v h ih = (omega arith, ap (λ w. t .1 ++ w) (ih .1) ∙ cc)
+
+    rest : (t : ℕ × List ℕ) (o : Option (ℕ × List ℕ)) → ((v : ℕ × List ℕ) → o ≡ Some v → (position m u (t .0) ≡ length u) × (written m u (t .0) ≡ v .1)) → moved (t .1) o ≡ Some r → (1 + position m u (t .0) ≡ length (s ∷ u)) × (t .1 ++ written m u (t .0) ≡ r .1)
+    rest t None ih h = grind arith
+    rest t (Some v) ih h = later t v h (ih v refl)
+
+    step : (o : Option (ℕ × List ℕ)) → ((p : ℕ) (t : ℕ × List ℕ) → run m u p ≡ Some t → (position m u p ≡ length u) × (written m u p ≡ t .1)) → andThen o (λ r. moved (r .1) (run m u (r .0))) ≡ Some r → (orElse o 0 (λ r. 1 + position m u (r .0)) ≡ length (s ∷ u)) × (orElse o [] (λ r. r .1 ++ written m u (r .0)) ≡ r .1)
+    step None ih h = grind arith
+    step (Some t) ih h = rest t (run m u (t .0)) (λ v e. ih (t .0) v e) h

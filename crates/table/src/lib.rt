@@ -9,3 +9,5 @@ pub use entries::Rule;
 pub use entries::State;
 pub use fault::FaultCode;
 pub use fault::TableFault;
+pub use fault::TableFaultDebug;
+pub use fault::TableFaultPartialEq;

@@ -6,11 +6,11 @@ use lib.ListN.{length, take, drop, getD}
 use Rattle.std.specs.declared.option.Option.the-variants.{Some}
 use Rattle.std.specs.declared.result.Result.the-variants.{Ok, Err}
 use Rattle.std.proofs.shelf.Lists.{length-append, length-take}
-use Rattle.machine.specs.Walk.{orElse, position}
+use Rattle.machine.specs.Walk.{position}
 use Rattle.machine.proofs.Walks.{along-start, along-step, along-stuck, along-end}
 use Rattle.table.specs.Table.{tableOf}
 use Rattle.filter.specs.Machines.{valuesOf, machineOf}
-use Rattle.filter.specs.Outcomes.{put}
+use Rattle.filter.specs.Outcomes.{put, endOf}
 use Rattle.filter.proofs.Emits.{values-few}
 use Rattle.filter.proofs.Puts.{put-append}
 use Rattle.filter.proofs.walk.walk.Needs as need
@@ -25,7 +25,8 @@ returns-in-rest g c =
     let I = c .loop-position .inv in
     let stuck = along-stuck M (c .args .text .now) (c .args .start) (c .loop-position .position) (c .loop-position .state) (I .0) (I .1) (c .loop-position-test .taken) (c .in-rest .ensures tt .leads) in
     record {
-      answer = ap Err (sym (stuck .1)) ∙ ap (λ o. orElse o (Err (position M (c .args .text .now) (c .args .start))) (λ r. Ok (r .0, length (r .1)))) (sym (stuck .0));
+      answer = ap Err (sym (stuck .1)) ∙ ap (endOf (position M (c .args .text .now) (c .args .start))) (sym (stuck .0));
+      bound = tt;
       output = sym (I .4) ∙ ap (λ w. put 0 w (c .args .out .now)) (sym (stuck .2));
     }
 
@@ -56,6 +57,7 @@ returns g c =
     let I = c .loop-position .inv in
     let end = along-end M (c .args .text .now) (c .args .start) (c .loop-position .position) (c .loop-position .state) (I .0) (I .1) (c .loop-position-test .left) in
     record {
-      answer = ap (λ n. Ok (c .loop-position .state, n)) (sym (I .2)) ∙ ap (λ o. orElse o (Err (position M (c .args .text .now) (c .args .start))) (λ r. Ok (r .0, length (r .1)))) (sym (end .0));
+      answer = ap (λ n. Ok (c .loop-position .state, n)) (sym (I .2)) ∙ ap (endOf (position M (c .args .text .now) (c .args .start))) (sym (end .0));
+      bound = omega (arith, I .3);
       output = sym (I .4) ∙ ap (λ w. put 0 w (c .args .out .now)) (sym (end .1));
     }
