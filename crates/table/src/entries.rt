@@ -19,6 +19,7 @@ pub struct Rule<G> {
 }
 
 // A draft: any three lists. Outputs are the final outputs of all states, by state, then those of all rules, by rule.
+#[derive_where(Clone, Copy)]
 pub struct Draft<'a, A: Alphabet> {
     pub states: &'a [State],
     pub rules: &'a [Rule<A::Guard>],

@@ -7,7 +7,7 @@ use Rattle.filter.specs.Machines.{machineOf}
 use Rattle.filter.specs.Outcomes.{answerFor, ended, outputAfter}
 use Rattle.filter.specs.Promises.{afterCheck}
 use Rattle.filter.proofs.Promises.{transduces, agrees-if-checked}
-use Rattle.filter.proofs.transduce.transduce.Needs as need
+use Rattle.filter.proofs.transducing.transduce.Needs as need
 
 pub returns-in-Break-check : need.returns-in-Break-check
 returns-in-Break-check g c =

@@ -9,7 +9,7 @@ use Rattle.filter.specs.declared.outcome.TransduceFault.the-variants.{ShortOut
 use Rattle.filter.specs.Machines.{machineOf}
 use Rattle.filter.specs.Outcomes.{ended, finished, put, outputAfter}
 use Rattle.filter.proofs.Transduces.{behind-none, behind-some, answer-rejected, answer-short, answer-written, output-written}
-use Rattle.filter.proofs.transduce.transduce_sound.Needs as need
+use Rattle.filter.proofs.transducing.transduce_sound.Needs as need
 
 pub returns-in-rest : need.returns-in-rest
 returns-in-rest g c =
