@@ -8,6 +8,8 @@ pub use entries::Draft;
 pub use entries::Rule;
 pub use entries::State;
 pub use fault::FaultCode;
+pub use fault::FaultCodeDebug;
+pub use fault::FaultCodePartialEq;
 pub use fault::TableFault;
 pub use fault::TableFaultDebug;
 pub use fault::TableFaultPartialEq;
