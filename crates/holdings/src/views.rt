@@ -96,4 +96,18 @@ impl<'a, A: Alphabet> Shelf<'a, A> {
             outputs: &self.outputs[outputs..outputs_end],
         }
     }
+    // Whether the shelf can be read: it fits, and every holding is sound.
+    pub fn check(&self) -> Result<(), Fault>
+        ensures { λ r. ⌜ r ≡ checkedShelf model (memoryOf (now (self .entry))) ⌝ }
+    {
+        if !self.fits() {
+            return Err(Fault::Misfit);
+        }
+        let holdings = self.head.holdings;
+        for i in 0..holdings {
+            let view = self.view(i);
+            at_holding(i + 1, view.check())?;
+        }
+        Ok(())
+    }
 }
