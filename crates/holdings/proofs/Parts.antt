@@ -54,6 +54,9 @@ pub record Fitting {G T : Type 0} (M : Memory G T) : Type 0 where
   pub states : statesOf (inUse M) ≤ length (M .states)
   pub rules : rulesOf (inUse M) ≤ length (M .rules)
   pub outputs : outputsOf (inUse M) ≤ length (M .outputs)
+  pub all-states : statesOf (inUse M) ≡ M .head .states
+  pub all-rules : rulesOf (inUse M) ≡ M .head .rules
+  pub all-outputs : outputsOf (inUse M) ≡ M .head .outputs
 
 pub fitting : {G T : Type 0} (M : Memory G T) → fits M ≡ true → Fitting M
 fitting M ok = record {
@@ -62,4 +65,7 @@ fitting M ok = record {
   states = grind (arith, tells);
   rules = grind (arith, tells);
   outputs = grind (arith, tells);
+  all-states = grind (arith, tells);
+  all-rules = grind (arith, tells);
+  all-outputs = grind (arith, tells);
 }

@@ -1,12 +1,13 @@
 -- A table put behind the holdings of a shelf.
-use mathlib.Core.Bool.{Bool, cond, _&&_}
+use mathlib.Core.Path.{_≡_}
+use mathlib.Core.Bool.{Bool, true, _&&_}
 use mathlib.Core.List.{List, _++_}
-use Prim.Native.Nat.{ℕ, _+_}
+use Prim.Native.Nat.{ℕ, _+_, _<_}
 use lib.Dec.{leb, ltb}
 use lib.ListN.{length, take, drop, set}
 use Rattle.table.specs.Table.{Table}
 use Rattle.holdings.specs.declared.memory.Entry.{Entry}
-use Rattle.holdings.specs.Memory.{Memory}
+use Rattle.holdings.specs.Memory.{Memory, fits, holding}
 
 -- ys written over xs from n on
 abbrev pub over : {X : Type 0} → List X → ℕ → List X → List X
@@ -40,3 +41,10 @@ module _ {G T : Type 0} (M : Memory G T) (F : Table G T) where
     rules = over (M .rules) (M .head .rules) (F .rules);
     outputs = over (M .outputs) (M .head .outputs) (F .outputs);
   }
+
+-- after a table was put behind the holdings of one memory, the other has them as they were, and the table behind them
+pub record Adds {G T : Type 0} (before : Memory G T) (F : Table G T) (after : Memory G T) : Type 0 where
+  pub fitting : fits after ≡ true
+  pub one-more : after .head .holdings ≡ before .head .holdings + 1
+  pub kept : (i : ℕ) → i < before .head .holdings → holding after i ≡ holding before i
+  pub last : holding after (before .head .holdings) ≡ F

@@ -60,3 +60,13 @@ holding M i = record {
   rules = stretch (λ (e : Entry). e .rules) (inUse M) i (M .rules);
   outputs = stretch (λ (e : Entry). e .outputs) (inUse M) i (M .outputs);
 }
+
+-- a shelf just opened over lists
+abbrev pub opened : {G T : Type 0} → List Entry → List State → List (Rule G) → List T → Memory G T
+opened ledger states rules outputs = record {
+  head = record { holdings = 0; states = 0; rules = 0; outputs = 0 };
+  ledger = ledger;
+  states = states;
+  rules = rules;
+  outputs = outputs;
+}

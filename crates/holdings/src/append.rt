@@ -5,7 +5,7 @@ ghost use Prim.Native.Nat.{_+_, _≤_};
 ghost use lib.ListN.{length};
 ghost use Rattle.table.specs.Table.{tableOf};
 ghost use Rattle.holdings.specs.Memory.{memoryOf, fits as fitting};
-ghost use Rattle.holdings.specs.Append.{over, roomFor, appended};
+ghost use Rattle.holdings.specs.Append.{over, roomFor, appended, Adds};
 use crate::memory::Entry;
 use crate::memory::Head;
 use crate::memory::Shelf;
@@ -42,6 +42,7 @@ impl<'a, A: Alphabet> Shelf<'a, A> {
         requires short { ⌜ (length (now (now draft .states)) ≤ 65535) × (length (now (now draft .rules)) ≤ 65535) × (length (now (now draft .outputs)) ≤ 65535) ⌝ }
         ensures answer { λ r. ⌜ r ≡ roomFor (memoryOf (now (self .entry))) (tableOf (now (draft .entry))) ⌝ }
         ensures memory { λ r. ⌜ memoryOf (now (self .exit)) ≡ cond r (appended (memoryOf (now (self .entry))) (tableOf (now (draft .entry)))) (memoryOf (now (self .entry))) ⌝ }
+        ensures adds { λ r. ⌜ (r ≡ true → Adds (memoryOf (now (self .entry))) (tableOf (now (draft .entry))) (memoryOf (now (self .exit)))) ⌝ }
     {
         if !self.has_room_for(draft) {
             return false;

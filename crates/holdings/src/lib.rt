@@ -2,6 +2,7 @@
 pub mod append;
 pub mod fault;
 pub mod memory;
+pub mod open;
 pub mod views;
 
 pub use fault::Fault;
