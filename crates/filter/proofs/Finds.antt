@@ -56,7 +56,7 @@ module _ {G T : Type 0} (m : Model G T) (p s : ℕ) where
     pub to : f .to ≡ f .from + rule .outputs
     pub part : stretch (λ (r : Rule G). r .outputs) rs j (drop k ts) ≡ take (f .to - f .from) (drop (f .from) ts)
 
-  found-picked : (ts : List T) (rs : List (Rule G)) (i k : ℕ) (f : Found) → found m p s i k rs ≡ Some f → Picked ts rs i k f
+  pub found-picked : (ts : List T) (rs : List (Rule G)) (i k : ℕ) (f : Found) → found m p s i k rs ≡ Some f → Picked ts rs i k f
   found-picked ts [] i k f e = grind arith
   found-picked ts (r ∷ rs) i k f e = go (applies m p s r) refl (λ h. found-picked ts rs (i + 1) (k + r .outputs) f h) e
     where

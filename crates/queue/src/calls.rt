@@ -83,6 +83,13 @@ impl<'a, T: Copy> Queue<'a, T> {
         self.entries().len()
     }
 
+    // How many entries there can be in all.
+    pub fn room(&self) -> usize
+        ensures { λ r. ⌜ r ≡ room (now (self .entry)) ⌝ }
+    {
+        self.slots.len()
+    }
+
     // How many entries wait.
     pub fn len(&self) -> usize
         ensures { λ r. ⌜ r ≡ length (waiting (now (self .entry))) ⌝ }

@@ -1,0 +1,4 @@
+pub mod Equivalences
+pub mod Readable
+pub mod Filings
+pub mod Laws
