@@ -1,6 +1,3 @@
-pub mod Judging
-pub mod Growing
-pub mod Extending
-pub mod Trying
 pub mod Searching
 pub mod Starting
+pub mod Deciding

@@ -32,12 +32,12 @@ use Rattle.steps.proofs.Placing.{place-room}
 use Rattle.replay.specs.Replays.{outputBy, wholeBy, Stands, RoomFor, Attached, Agrees}
 use Rattle.replay.specs.Sizes.{finalsOf, mostOf, longestOf}
 use Rattle.moves.proofs.Full.{most-least}
-use Rattle.equivalence.specs.declared.frame.Frame.{Frame}
-use Rattle.equivalence.specs.Frames.{Framed}
-use Rattle.equivalence.specs.Kept.{Kept, Going, Turned}
+use Rattle.judging.specs.declared.frame.Frame.{Frame}
+use Rattle.judging.specs.Frames.{Framed}
+use Rattle.judging.specs.Kept.{Kept, Going, Turned}
 use Rattle.equivalence.specs.Answers.{Early}
-use Rattle.equivalence.proofs.Extending.{total-more}
-use Rattle.equivalence.proofs.Judging.{step-attached}
+use Rattle.trying.proofs.Extending.{total-more}
+use Rattle.judging.proofs.Judging.{step-attached}
 
 -- what a side says of the whole output is so
 whole-of : (M : Machine) (o : Option (ℕ × List ℕ)) → andThen (stateOf o) (λ q. prefixed (outputOf o) (M .final q)) ≡ andThen o (λ r. prefixed (r .1) (M .final (r .0)))

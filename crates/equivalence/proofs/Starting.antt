@@ -1,12 +1,11 @@
--- The sizes of two sound tables, and the step of the empty text.
+-- The step of the empty text.
 use mathlib.Core.Path.{_≡_, refl, sym, ap, subst, _∙_}
 use mathlib.Core.List.{List, [], _∷_}
 use Prim.Native.Nat.{ℕ, zero, suc, _+_, _*_, _<_, _≤_}
 use native.Mathlib.Nat.{mul-le-mul-left, mul-one, zero-mul}
 use native.Mathlib.Omega.{arith}
 use lib.ListN.{length, getD, set}
-use Rattle.std.specs.Finite.{nth}
-use Rattle.std.specs.declared.option.Option.the-variants.{Some, None}
+use Rattle.std.specs.declared.option.Option.the-variants.{Some}
 use Rattle.std.proofs.shelf.Lists.{getD-set-same}
 use Rattle.machine.specs.Machine.{run}
 use Rattle.machine.specs.Explored.{Ready}
@@ -14,7 +13,6 @@ use Rattle.machine.proofs.Turns.{ready-start}
 use Rattle.machine.proofs.Texts.{texts-root}
 use Rattle.alphabet.specs.Model.{Model}
 use Rattle.table.specs.Table.{Table}
-use Rattle.table.specs.Sound.{Sound}
 use Rattle.filter.specs.Machines.{machineOf}
 use Rattle.steps.specs.declared.step.Step.{Step}
 use Rattle.steps.specs.declared.step.Hand.{Hand}
@@ -23,21 +21,8 @@ use Rattle.steps.specs.Steps.{at, sideOf, text}
 use Rattle.steps.specs.Places.{placeAt, Placed}
 use Rattle.steps.proofs.Texts.{text-zero}
 use Rattle.replay.specs.Replays.{outputBy, Stands, Traced}
-use Rattle.replay.specs.Sizes.{mostOf, finalsOf, outputsOf, longestOf}
-use Rattle.equivalence.specs.Kept.{Kept, Turned}
+use Rattle.judging.specs.Kept.{Kept, Turned}
 use Rattle.equivalence.specs.Answers.{rootSide, rootStep}
-
-most-below : {X : Type 0} (count : X → ℕ) (b : ℕ) (xs : List X) → ((j : ℕ) (x : X) → nth xs j ≡ Some x → count x ≤ b) → mostOf count xs ≤ b
-most-below count b [] h = omega arith
-most-below count b (x ∷ xs) h =
-    let here = h 0 x refl in
-    let ih = most-below count b xs (λ j y e. h (suc j) y e) in omega arith
-
--- a sound table has no longer output than 32
-pub longest-few : {G T : Type 0} (m : Model G T) (F : Table G T) → Sound m F → longestOf F ≤ 32
-longest-few m F S =
-    let a = most-below finalsOf 32 (F .states) (S .short-final) in
-    let b = most-below outputsOf 32 (F .rules) (S .short-output) in omega arith
 
 -- what holds of the one step holds of each
 one : (P : ℕ → Type 0) → P 0 → (i : ℕ) → i < 1 → P i

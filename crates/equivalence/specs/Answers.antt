@@ -17,7 +17,7 @@ use Rattle.steps.specs.declared.step.Step.{Step}
 use Rattle.steps.specs.Steps.{text}
 use Rattle.steps.specs.Places.{stepsNeeded}
 use Rattle.equivalence.specs.declared.compare.ScratchShort.{ScratchShort}
-use Rattle.equivalence.specs.Frames.{roomOf}
+use Rattle.judging.specs.Frames.{roomOf}
 
 -- the text of a step, if one is answered
 abbrev pub textIn : List Step → Option ℕ → Option (List ℕ)

@@ -1,3 +1,2 @@
-pub mod Frames
-pub mod Kept
 pub mod Answers
+pub mod Decided

@@ -7,10 +7,11 @@ ghost use Rattle.queue.specs.Held.{entries as entriesOf, room as slotsOf};
 ghost use Rattle.table.specs.Table.{tableOf};
 ghost use Rattle.table.specs.Sound.{Sound};
 ghost use Rattle.equivalence.specs.Answers.{rootStep, rootPlace, Compared};
-use crate::frame::Frame;
-use crate::frame::frame_of;
+ghost use Rattle.equivalence.specs.Decided.{Decides};
 use crate::search::search;
 use alphabet::Alphabet;
+use judging::Frame;
+use judging::frame_of;
 use queue::Queue;
 use steps::Side;
 use steps::Step;
@@ -66,7 +67,8 @@ pub fn compare<A: Alphabet>(
     requires right { ⌜ Sound model (tableOf (now right)) ⌝ }
     requires fresh { ⌜ entriesOf (now queue) ≡ [] ⌝ }
     requires taken { ⌜ now queue .taken ≡ 0 ⌝ }
-    ensures { λ r. ⌜ Compared model (tableOf (now (left .entry))) (tableOf (now (right .entry))) (slotsOf (now (queue .entry))) (length (now (symbols .entry))) (entriesOf (now (queue .exit))) r ⌝ }
+    ensures answer { λ r. ⌜ Compared model (tableOf (now (left .entry))) (tableOf (now (right .entry))) (slotsOf (now (queue .entry))) (length (now (symbols .entry))) (entriesOf (now (queue .exit))) r ⌝ }
+    ensures decides { λ r. ⌜ Decides model (tableOf (now (left .entry))) (tableOf (now (right .entry))) (entriesOf (now (queue .exit))) r ⌝ }
 {
     let frame = frame_of(left, right);
     if queue.room() < steps_needed(frame.left, frame.right) || symbols.len() < 6 * frame.room {

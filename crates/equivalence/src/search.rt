@@ -11,16 +11,16 @@ ghost use Rattle.filter.specs.Machines.{machineOf};
 ghost use Rattle.steps.specs.Places.{stepsNeeded};
 ghost use Rattle.std.specs.Orderings.{Decides};
 ghost use Rattle.replay.specs.Replays.{Tracks, Attached, Agrees, RoomFor};
-ghost use Rattle.equivalence.specs.Frames.{Framed};
-ghost use Rattle.equivalence.specs.Kept.{Turned};
+ghost use Rattle.judging.specs.Frames.{Framed};
+ghost use Rattle.judging.specs.Kept.{Turned};
 ghost use Rattle.equivalence.specs.Answers.{textIn, Early};
-use crate::attempt::expand;
-use crate::frame::Frame;
 use alphabet::Alphabet;
+use judging::Frame;
 use queue::Queue;
 use replay::agree;
 use steps::Step;
 use table::Draft;
+use trying::expand;
 
 // Whether the two filters do the same to the text of a step.
 fn step_agrees<A: Alphabet>(

@@ -16,7 +16,7 @@ use Rattle.table.specs.declared.entries.State.{State}
 use Rattle.table.specs.Table.{Table, finalOutputs}
 use Rattle.table.specs.Sound.{Sound, Constant}
 use Rattle.filter.specs.Machines.{valuesOf, machineOf}
-use Rattle.filter.specs.Meaning.{Values, Path, Final, Writes, Equivalent}
+use Rattle.filter.specs.Meaning.{SameOn, Values, Path, Final, Writes}
 use Rattle.filter.specs.Agrees.{Agrees}
 use Rattle.filter.proofs.Moves.{some-before, values-are, move-steps, step-moves}
 
@@ -115,17 +115,16 @@ module _ {G T : Type 0} (m : Model G T) where
     }
 
   module _ (F H : Table G T) (L : Lawful m) (R : Sound m F) (S : Sound m H) where
-    -- equivalent filters do the same to every text
-    pub equivalent-same : Equivalent m F H → (u : List ℕ) → transduced (machineOf m F) u ≡ transduced (machineOf m H) u
-    equivalent-same E u = go (transduced (machineOf m F) u) refl
+    -- filters that do the same to a text transduce it alike, and the other way round
+    pub same-transduced : (u : List ℕ) → SameOn m F H u → transduced (machineOf m F) u ≡ transduced (machineOf m H) u
+    same-transduced u E = go (transduced (machineOf m F) u) refl
       where
         go : (o : Option (List ℕ)) → transduced (machineOf m F) u ≡ o → o ≡ transduced (machineOf m H) u
-        go None e = sym (writes-nothing-rejected H L S u (λ v W. rejected-writes-nothing F L R u e v (E u v .1 W)))
-        go (Some v) e = sym (writes-transduced H L S u v (E u v .0 (transduced-writes F L R u v e)))
+        go None e = sym (writes-nothing-rejected H L S u (λ v W. rejected-writes-nothing F L R u e v (E v .1 W)))
+        go (Some v) e = sym (writes-transduced H L S u v (E v .0 (transduced-writes F L R u v e)))
 
-    -- filters that do the same to every text are equivalent
-    pub same-equivalent : ((u : List ℕ) → transduced (machineOf m F) u ≡ transduced (machineOf m H) u) → Equivalent m F H
-    same-equivalent E u v = (
-      λ W. transduced-writes H L S u v (sym (E u) ∙ writes-transduced F L R u v W),
-      λ W. transduced-writes F L R u v (E u ∙ writes-transduced H L S u v W),
+    pub transduced-same : (u : List ℕ) → transduced (machineOf m F) u ≡ transduced (machineOf m H) u → SameOn m F H u
+    transduced-same u e v = (
+      λ W. transduced-writes H L S u v (sym e ∙ writes-transduced F L R u v W),
+      λ W. transduced-writes F L R u v (e ∙ writes-transduced H L S u v W),
     )

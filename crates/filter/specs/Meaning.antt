@@ -49,6 +49,10 @@ module _ {G T : Type 0} (m : Model G T) (F : Table G T) where
     pub final : Final end at-the-end
     pub is : v ≡ on-the-way ++ at-the-end
 
--- two filters are equivalent: they write the same for every text, and reject the same texts
+-- two filters do the same to a text: what one writes for it the other writes, and so they reject it together
+abbrev pub SameOn : {G T : Type 0} → Model G T → Table G T → Table G T → List ℕ → Type 0
+SameOn m F H text = (v : List ℕ) → (Writes m F text v → Writes m H text v) × (Writes m H text v → Writes m F text v)
+
+-- two filters are equivalent: they do the same to every text
 abbrev pub Equivalent : {G T : Type 0} → Model G T → Table G T → Table G T → Type 0
-Equivalent m F H = (text v : List ℕ) → (Writes m F text v → Writes m H text v) × (Writes m H text v → Writes m F text v)
+Equivalent m F H = (text : List ℕ) → SameOn m F H text

@@ -2,14 +2,16 @@ use mathlib.Core.Path.{_≡_, sym, ap, subst, _∙_}
 use mathlib.Core.List.{List, [], _∷_}
 use Prim.Native.Nat.{ℕ, _<_}
 use native.Mathlib.Omega.{arith}
+use borrow.Author.Needs.{needs}
 use lib.ListN.{length, set}
 use denote.Ref.{now}
 use Rattle.queue.specs.Held.{entries}
 use Rattle.table.specs.Table.{tableOf}
 use Rattle.steps.specs.declared.step.Step.{Step}
 use Rattle.steps.specs.Places.{stepsNeeded}
-use Rattle.equivalence.specs.Kept.{Turned}
+use Rattle.judging.specs.Kept.{Turned}
 use Rattle.equivalence.specs.Answers.{rootStep}
+use Rattle.equivalence.proofs.Deciding.{decided}
 use Rattle.equivalence.proofs.Starting.{cells-fit, turned-start}
 use Rattle.equivalence.proofs.compare.compare.Needs as need
 
@@ -36,3 +38,9 @@ search-requires g c κs =
       room = omega (arith, c .split-at-mut-cells .ensures .back-len, c .if-symbols-frame .left);
       turned = subst (λ n. Turned m F H (f .left) (f .right) (f .width) (entries (c .start .last .queue)) (c .start .last .cells) n) (sym (c .start .ensures .taken ∙ c .pre .taken)) cells-are;
     }
+
+pub returns : need.returns
+returns g c = record {
+  answer = search needs;
+  decides = decided (g .A·Alphabet .model) (tableOf (c .args .left .now)) (tableOf (c .args .right .now)) (g .A·Alphabet .laws) (c .pre .left) (c .pre .right) _ (c .search .ensures .told);
+}

@@ -13,7 +13,7 @@ use Rattle.steps.specs.declared.step.Step.{Step}
 use Rattle.steps.specs.Steps.{blank, at, text}
 use Rattle.steps.specs.Places.{stepsNeeded}
 use Rattle.replay.specs.Replays.{Attached, Agrees, RoomFor}
-use Rattle.equivalence.specs.Kept.{Going, Turned}
+use Rattle.judging.specs.Kept.{Going, Turned}
 use Rattle.equivalence.specs.Answers.{Early}
 use Rattle.equivalence.proofs.Searching.{search-done, search-attached, search-left, search-right, search-agreed, search-found, search-early}
 use Rattle.equivalence.proofs.search.search.Needs as need

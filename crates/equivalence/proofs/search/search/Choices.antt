@@ -2,7 +2,7 @@ use mathlib.Core.Path.{_≡_}
 use Prim.Native.Nat.{_-_, _≤_}
 use Rattle.queue.specs.Held.{entries, room}
 use Rattle.table.specs.Table.{tableOf}
-use Rattle.equivalence.specs.Kept.{Turned}
+use Rattle.judging.specs.Kept.{Turned}
 use Rattle.equivalence.proofs.search.search.Given as given
 
 abbrev pub Inv-loop-number : given.InvT-loop-number
