@@ -1,0 +1,11 @@
+pub mod Firsts
+pub mod Lines
+pub mod Ways
+pub mod Pairs
+pub mod Places
+pub mod Explores
+pub mod Tables
+pub mod Symbols
+pub mod Numbers
+pub mod Composed
+pub mod Sounds

@@ -1,0 +1,3 @@
+pub mod Walkings
+pub mod Turns
+pub mod Explorings
