@@ -9,3 +9,4 @@ pub mod Symbols
 pub mod Numbers
 pub mod Composed
 pub mod Sounds
+pub mod Joining

@@ -12,6 +12,7 @@ use Rattle.table.specs.declared.entries.State.{State}
 use Rattle.table.specs.declared.entries.Rule.{Rule}
 use Rattle.table.specs.Table.{Table}
 use Rattle.table.specs.Sound.{Sound, Suits}
+use Rattle.filter.specs.Meaning.{Writes}
 use Rattle.filter.specs.Machines.{machineOf, valuesOf}
 use Rattle.join_laws.specs.Lines.{linesOf}
 use Rattle.join_laws.specs.Ways.{ways, taken}
@@ -39,3 +40,8 @@ module _ {G T : Type 0} (m : Model G T) where
     -- no more states than pairs, and sound wherever it is within the limits
     pub few : length (joined m F H .states) ≤ length (F .states) * length (H .states)
     pub sound : Limited (joined m F H) → Sound m (joined m F H)
+    -- in the words of what filters write: within the limits it writes v for u exactly where the first writes some t for u
+    -- and the second writes v for t
+    pub writes : Limited (joined m F H) → (u v : List ℕ)
+        → (Writes m (joined m F H) u v → (t : List ℕ) × Writes m F u t × Writes m H t v)
+        × ((t : List ℕ) → Writes m F u t → Writes m H t v → Writes m (joined m F H) u v)

@@ -8,8 +8,7 @@ use Rattle.std.proofs.shelf.Results.{err-from-errBy}
 use Rattle.queue.specs.Held.{entries, room}
 use Rattle.table.specs.Table.{tableOf}
 use Rattle.join_laws.specs.Joined.{linesFor, waysAt, finalAt, pairs, joined}
-use Rattle.join_laws.proofs.Composed.{joined-composes, joined-transduced, joined-few}
-use Rattle.join_laws.proofs.Sounds.{joined-sound}
+use Rattle.join_laws.proofs.Joining.{joins}
 use Rattle.join_laws.specs.Lines.{tableFrom}
 use Rattle.join_laws.specs.Theorems.{Joins}
 use Rattle.std.specs.declared.result.Result.the-variants.{Ok}
@@ -33,12 +32,7 @@ returns-in-Break-counts g c =
     let r = err-from-errBy (c .from-residual .result) (c .from-residual .ensures .1) in
     record {
       fills = rw (r .1) (λ f. over (simp (length-map) at (f .states)) (fits-lines m fs ls (room (c .args .queue .now)) (c .args .rules .now) (c .args .outputs .now) f));
-      composes = record {
-        pairwise = joined-composes m law F H (c .pre .first) (c .pre .second);
-        composed = joined-transduced m law F H (c .pre .first) (c .pre .second);
-        few = joined-few m law F H (c .pre .first) (c .pre .second);
-        sound = joined-sound m law F H (c .pre .first) (c .pre .second);
-      };
+      composes = joins m law F H (c .pre .first) (c .pre .second);
     }
 
 pub returns-in-Break-total : need.returns-in-Break-total
@@ -60,12 +54,7 @@ returns-in-Break-total g c =
     let O₁ = c .explore .last .outputs in
     let ex = c .in-Continue-counts .ensures tt .explores in
     let same : c .entries .result .now ≡ P = c .entries .ensures ∙ ex .0 in
-    let joins : Joins m F H = record {
-      pairwise = joined-composes m law F H (c .pre .first) (c .pre .second);
-      composed = joined-transduced m law F H (c .pre .first) (c .pre .second);
-      few = joined-few m law F H (c .pre .first) (c .pre .second);
-      sound = joined-sound m law F H (c .pre .first) (c .pre .second);
-    } in
+    let joins : Joins m F H = joins m law F H (c .pre .first) (c .pre .second) in
     let over = subst (λ ps. Room m (d .outputs) (map f ps) O₁ → ⊥) same (c .in-Break-total .ensures tt) in
     let r = err-from-errBy (c .from-residual-in-Break-total .result) (c .from-residual-in-Break-total .ensures .1) in
     record { fills = rw (r .1) (λ fit. over (fits-finals m fs ls top R O d R₁ O₁ (ex .2) fit)); composes = joins }
@@ -89,12 +78,7 @@ returns g c =
     let O₁ = c .explore .last .outputs in
     let ex = c .in-Continue-counts .ensures tt .explores in
     let same : c .entries .result .now ≡ P = c .entries .ensures ∙ ex .0 in
-    let joins : Joins m F H = record {
-      pairwise = joined-composes m law F H (c .pre .first) (c .pre .second);
-      composed = joined-transduced m law F H (c .pre .first) (c .pre .second);
-      few = joined-few m law F H (c .pre .first) (c .pre .second);
-      sound = joined-sound m law F H (c .pre .first) (c .pre .second);
-    } in
+    let joins : Joins m F H = joins m law F H (c .pre .first) (c .pre .second) in
     let n = c .made .result in
     let total = c .in-Continue-total .total in
     let S = c .args .states .now in

@@ -8,8 +8,7 @@ use Rattle.queue.specs.Held.{entries, room}
 use Rattle.table.specs.Table.{tableOf}
 use Rattle.join_laws.specs.Joined.{joined}
 use Rattle.join_laws.specs.Theorems.{Joins}
-use Rattle.join_laws.proofs.Composed.{joined-composes, joined-transduced, joined-few}
-use Rattle.join_laws.proofs.Sounds.{joined-sound}
+use Rattle.join_laws.proofs.Joining.{joins}
 use Rattle.join_pairs.proofs.Meetings.{number-refused}
 use Rattle.join.proofs.Fillings.{joined-some, answers-from-fills}
 use Rattle.join.proofs.join.Needs as need
@@ -23,12 +22,7 @@ returns-then-most-eq0 g c =
     let some = joined-some m law F H (c .pre .first) (c .pre .second) in
     record {
       joins = λ r. omega (arith, some, r .pairs-fit, r .states-fit, c .least .ensures, c .least-most .ensures, c .if-most-eq0 .taken);
-      composes = record {
-        pairwise = joined-composes m law F H (c .pre .first) (c .pre .second);
-        composed = joined-transduced m law F H (c .pre .first) (c .pre .second);
-        few = joined-few m law F H (c .pre .first) (c .pre .second);
-        sound = joined-sound m law F H (c .pre .first) (c .pre .second);
-      };
+      composes = joins m law F H (c .pre .first) (c .pre .second);
     }
 
 pub returns-in-rest : need.returns-in-rest
@@ -42,12 +36,7 @@ returns-in-rest g c =
     let full = number-refused (length (entries q)) (room q) _ _ (c .in-rest .ensures tt .answer) in
     record {
       joins = λ r. omega (arith, full, top, ap length (c .new-queue .ensures .entries), c .if-most-eq0 .left);
-      composes = record {
-        pairwise = joined-composes m law F H (c .pre .first) (c .pre .second);
-        composed = joined-transduced m law F H (c .pre .first) (c .pre .second);
-        few = joined-few m law F H (c .pre .first) (c .pre .second);
-        sound = joined-sound m law F H (c .pre .first) (c .pre .second);
-      };
+      composes = joins m law F H (c .pre .first) (c .pre .second);
     }
 
 pub fill-requires : need.fill-requires

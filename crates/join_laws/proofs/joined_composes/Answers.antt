@@ -1,7 +1,6 @@
 -- The joined filter composes, is small and stays sound.
 use Rattle.table.specs.Table.{tableOf}
-use Rattle.join_laws.proofs.Composed.{joined-composes, joined-transduced, joined-few}
-use Rattle.join_laws.proofs.Sounds.{joined-sound}
+use Rattle.join_laws.proofs.Joining.{joins}
 use Rattle.join_laws.proofs.joined_composes.Needs as need
 
 pub returns : need.returns
@@ -10,9 +9,4 @@ returns g c =
     let law = g .A·Alphabet .laws in
     let F = tableOf (c .args .first .now) in
     let H = tableOf (c .args .second .now) in
-    record {
-      pairwise = joined-composes m law F H (c .pre .first) (c .pre .second);
-      composed = joined-transduced m law F H (c .pre .first) (c .pre .second);
-      few = joined-few m law F H (c .pre .first) (c .pre .second);
-      sound = joined-sound m law F H (c .pre .first) (c .pre .second);
-    }
+    joins m law F H (c .pre .first) (c .pre .second)
