@@ -1,7 +1,7 @@
 // Compares large filters over code points, as a run to be timed: two cycles of states, and two tables of 64 states and
 // 1,024 rules of which the second is the first with its states and rules in another order.
-use comparing::compare_drafts;
 use comparing::CompareFault;
+use comparing::compare_drafts;
 use ranges::CodePoints;
 use ranges::Range;
 use ranges::RangeTerm;
@@ -37,15 +37,28 @@ fn cycle(heap: Global, count: u16) -> Result<Table, AllocError> {
         states.push(State { mark, finals: 0 })?;
         let next = if state < count - 1 { state + 1 } else { 0 };
         let guard = Range { low: 97, high: 97 };
-        rules.push(Rule { state, next, outputs: 0, guard })?;
+        rules.push(Rule {
+            state,
+            next,
+            outputs: 0,
+            guard,
+        })?;
     }
-    Ok(Table { states, rules, outputs: Vec::new(heap) })
+    Ok(Table {
+        states,
+        rules,
+        outputs: Vec::new(heap),
+    })
 }
 
 // The number that a state has: its own, or counted from the other end with state 0 kept.
 fn numbered(state: u16, turned: bool) -> u16 {
     let state = state % COUNT;
-    if turned && state != 0 { COUNT - state } else { state }
+    if turned && state != 0 {
+        COUNT - state
+    } else {
+        state
+    }
 }
 
 // A table of 64 states with 16 rules each. Turned round, its states and the rules of a state have another order.
@@ -61,14 +74,26 @@ fn wide(heap: Global, turned: bool) -> Result<Table, AllocError> {
             let part = if turned { ROW - 1 - place } else { place };
             let next = numbered(state * 5 + part as u16, turned);
             let low = part * SPAN;
-            let guard = Range { low, high: low + (SPAN - 1) };
+            let guard = Range {
+                low,
+                high: low + (SPAN - 1),
+            };
             let from = numbered(state, turned);
-            rules.push(Rule { state: from, next, outputs: 2, guard })?;
+            rules.push(Rule {
+                state: from,
+                next,
+                outputs: 2,
+                guard,
+            })?;
             outputs.push(RangeTerm::Shift(0))?;
             outputs.push(RangeTerm::Constant(state as u32))?;
         }
     }
-    Ok(Table { states, rules, outputs })
+    Ok(Table {
+        states,
+        rules,
+        outputs,
+    })
 }
 
 // Prints whether two tables are equivalent, or the length of the earliest text that distinguishes them.
@@ -98,9 +123,24 @@ fn report(rt: &LibcRuntime, name: &str, one: &Table, other: &Table) -> Result<()
 
 fn run(rt: &LibcRuntime) -> Result<(), AnyError> {
     let heap = rt.alloc();
-    report(rt, "cycles of 63 and 64 states", &cycle(heap, 63)?, &cycle(heap, 64)?)?;
-    report(rt, "cycles of 64 states", &cycle(heap, 64)?, &cycle(heap, 64)?)?;
-    report(rt, "1,024 rules, turned round", &wide(heap, false)?, &wide(heap, true)?)
+    report(
+        rt,
+        "cycles of 63 and 64 states",
+        &cycle(heap, 63)?,
+        &cycle(heap, 64)?,
+    )?;
+    report(
+        rt,
+        "cycles of 64 states",
+        &cycle(heap, 64)?,
+        &cycle(heap, 64)?,
+    )?;
+    report(
+        rt,
+        "1,024 rules, turned round",
+        &wide(heap, false)?,
+        &wide(heap, true)?,
+    )
 }
 
 fn main(rt: LibcRuntime) -> Result<(), AnyError> {

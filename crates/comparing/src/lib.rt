@@ -10,10 +10,10 @@ use judging::frame_of;
 use queue::Queue;
 use std::alloc::AllocError;
 use std::alloc::Global;
-use steps::steps_needed;
-use steps::write_text;
 use steps::Side;
 use steps::Step;
+use steps::steps_needed;
+use steps::write_text;
 use table::Draft;
 use table::TableFault;
 
@@ -36,9 +36,20 @@ pub impl From<AllocError> for CompareFault as CompareFaultFromAlloc {
     }
 }
 
-const SIDE: Side = Side { state: None, from: 0, to: 0, total: 0 };
+const SIDE: Side = Side {
+    state: None,
+    from: 0,
+    to: 0,
+    total: 0,
+};
 
-const BLANK: Step = Step { parent: 0, symbol: 0, left: SIDE, right: SIDE, again: false };
+const BLANK: Step = Step {
+    parent: 0,
+    symbol: 0,
+    left: SIDE,
+    right: SIDE,
+    again: false,
+};
 
 // The earliest of the shortest texts that distinguish two sound filters, or none where they are equivalent.
 fn compare_sound<A: Alphabet>(

@@ -19,43 +19,151 @@ static REJECTING: [State; 2] = [State { mark: 0, finals: 0 }, State { mark: 0, f
 
 static DELAYING: [State; 2] = [State { mark: 1, finals: 0 }, State { mark: 1, finals: 1 }];
 
-static LAST_ACCEPTS: [State; 3] =
-    [State { mark: 0, finals: 0 }, State { mark: 0, finals: 0 }, State { mark: 1, finals: 0 }];
-
-static ALL: [Rule<Range>; 1] =
-    [Rule { state: 0, next: 0, outputs: 1, guard: Range { low: 0, high: 0xff } }];
-
-static HALVES: [Rule<Range>; 2] = [
-    Rule { state: 0, next: 0, outputs: 1, guard: Range { low: 0x80, high: 0xff } },
-    Rule { state: 0, next: 0, outputs: 1, guard: Range { low: 0, high: 0x7f } },
+static LAST_ACCEPTS: [State; 3] = [
+    State { mark: 0, finals: 0 },
+    State { mark: 0, finals: 0 },
+    State { mark: 1, finals: 0 },
 ];
 
-static TWO_LETTERS: [Rule<Range>; 1] =
-    [Rule { state: 0, next: 0, outputs: 1, guard: Range { low: 0x61, high: 0x62 } }];
+static ALL: [Rule<Range>; 1] = [Rule {
+    state: 0,
+    next: 0,
+    outputs: 1,
+    guard: Range { low: 0, high: 0xff },
+}];
 
-static ONE_LETTER: [Rule<Range>; 1] =
-    [Rule { state: 0, next: 0, outputs: 1, guard: Range { low: 0x61, high: 0x61 } }];
+static HALVES: [Rule<Range>; 2] = [
+    Rule {
+        state: 0,
+        next: 0,
+        outputs: 1,
+        guard: Range {
+            low: 0x80,
+            high: 0xff,
+        },
+    },
+    Rule {
+        state: 0,
+        next: 0,
+        outputs: 1,
+        guard: Range { low: 0, high: 0x7f },
+    },
+];
+
+static TWO_LETTERS: [Rule<Range>; 1] = [Rule {
+    state: 0,
+    next: 0,
+    outputs: 1,
+    guard: Range {
+        low: 0x61,
+        high: 0x62,
+    },
+}];
+
+static ONE_LETTER: [Rule<Range>; 1] = [Rule {
+    state: 0,
+    next: 0,
+    outputs: 1,
+    guard: Range {
+        low: 0x61,
+        high: 0x61,
+    },
+}];
 
 static DELAYED: [Rule<Range>; 2] = [
-    Rule { state: 0, next: 1, outputs: 0, guard: Range { low: 0x61, high: 0x61 } },
-    Rule { state: 1, next: 1, outputs: 1, guard: Range { low: 0x61, high: 0x61 } },
+    Rule {
+        state: 0,
+        next: 1,
+        outputs: 0,
+        guard: Range {
+            low: 0x61,
+            high: 0x61,
+        },
+    },
+    Rule {
+        state: 1,
+        next: 1,
+        outputs: 1,
+        guard: Range {
+            low: 0x61,
+            high: 0x61,
+        },
+    },
 ];
 
 static TWICE: [Rule<Range>; 3] = [
-    Rule { state: 0, next: 1, outputs: 1, guard: Range { low: 0x61, high: 0x61 } },
-    Rule { state: 0, next: 1, outputs: 2, guard: Range { low: 0x62, high: 0x62 } },
-    Rule { state: 1, next: 2, outputs: 0, guard: Range { low: 0x63, high: 0x63 } },
+    Rule {
+        state: 0,
+        next: 1,
+        outputs: 1,
+        guard: Range {
+            low: 0x61,
+            high: 0x61,
+        },
+    },
+    Rule {
+        state: 0,
+        next: 1,
+        outputs: 2,
+        guard: Range {
+            low: 0x62,
+            high: 0x62,
+        },
+    },
+    Rule {
+        state: 1,
+        next: 2,
+        outputs: 0,
+        guard: Range {
+            low: 0x63,
+            high: 0x63,
+        },
+    },
 ];
 
 static ONCE: [Rule<Range>; 3] = [
-    Rule { state: 0, next: 1, outputs: 1, guard: Range { low: 0x61, high: 0x61 } },
-    Rule { state: 0, next: 1, outputs: 1, guard: Range { low: 0x62, high: 0x62 } },
-    Rule { state: 1, next: 2, outputs: 0, guard: Range { low: 0x63, high: 0x63 } },
+    Rule {
+        state: 0,
+        next: 1,
+        outputs: 1,
+        guard: Range {
+            low: 0x61,
+            high: 0x61,
+        },
+    },
+    Rule {
+        state: 0,
+        next: 1,
+        outputs: 1,
+        guard: Range {
+            low: 0x62,
+            high: 0x62,
+        },
+    },
+    Rule {
+        state: 1,
+        next: 2,
+        outputs: 0,
+        guard: Range {
+            low: 0x63,
+            high: 0x63,
+        },
+    },
 ];
 
 static AROUND: [Rule<Range>; 2] = [
-    Rule { state: 0, next: 1, outputs: 1, guard: Range { low: 0, high: 0xff } },
-    Rule { state: 1, next: 0, outputs: 1, guard: Range { low: 0, high: 0xff } },
+    Rule {
+        state: 0,
+        next: 1,
+        outputs: 1,
+        guard: Range { low: 0, high: 0xff },
+    },
+    Rule {
+        state: 1,
+        next: 0,
+        outputs: 1,
+        guard: Range { low: 0, high: 0xff },
+    },
 ];
 
 static COPIED: [RangeTerm; 2] = [RangeTerm::Shift(0), RangeTerm::Shift(0)];
@@ -66,28 +174,64 @@ static BANG: [RangeTerm; 2] = [RangeTerm::Constant(0x21), RangeTerm::Shift(0)];
 
 static LATE: [RangeTerm; 2] = [RangeTerm::Constant(0x61), RangeTerm::Constant(0x61)];
 
-static CROSSES: [RangeTerm; 3] =
-    [RangeTerm::Constant(0x78), RangeTerm::Constant(0x78), RangeTerm::Constant(0x78)];
-
-static MARKS: [Rule<MarkSet>; 1] =
-    [Rule { state: 0, next: 0, outputs: 1, guard: MarkSet { bits: 0x1f_ffff_ffff } }];
-
-static DIGITS_APART: [Rule<MarkSet>; 2] = [
-    Rule { state: 0, next: 0, outputs: 1, guard: MarkSet { bits: 0x1f_ffff_fc00 } },
-    Rule { state: 0, next: 0, outputs: 1, guard: MarkSet { bits: 0x03ff } },
+static CROSSES: [RangeTerm; 3] = [
+    RangeTerm::Constant(0x78),
+    RangeTerm::Constant(0x78),
+    RangeTerm::Constant(0x78),
 ];
 
-static SAME_MARK: [MarkTerm; 2] =
-    [MarkTerm::Turn { factor: 1, offset: 0 }, MarkTerm::Turn { factor: 1, offset: 0 }];
+static MARKS: [Rule<MarkSet>; 1] = [Rule {
+    state: 0,
+    next: 0,
+    outputs: 1,
+    guard: MarkSet {
+        bits: 0x1f_ffff_ffff,
+    },
+}];
 
-static TURNED: [MarkTerm; 1] = [MarkTerm::Turn { factor: 2, offset: 1 }];
+static DIGITS_APART: [Rule<MarkSet>; 2] = [
+    Rule {
+        state: 0,
+        next: 0,
+        outputs: 1,
+        guard: MarkSet {
+            bits: 0x1f_ffff_fc00,
+        },
+    },
+    Rule {
+        state: 0,
+        next: 0,
+        outputs: 1,
+        guard: MarkSet { bits: 0x03ff },
+    },
+];
+
+static SAME_MARK: [MarkTerm; 2] = [
+    MarkTerm::Turn {
+        factor: 1,
+        offset: 0,
+    },
+    MarkTerm::Turn {
+        factor: 1,
+        offset: 0,
+    },
+];
+
+static TURNED: [MarkTerm; 1] = [MarkTerm::Turn {
+    factor: 2,
+    offset: 1,
+}];
 
 fn bytes(
     states: &'static [State],
     rules: &'static [Rule<Range>],
     outputs: &'static [RangeTerm],
 ) -> Draft<'static, Bytes> {
-    Draft { states, rules, outputs }
+    Draft {
+        states,
+        rules,
+        outputs,
+    }
 }
 
 pub fn copy() -> Draft<'static, Bytes> {
@@ -135,13 +279,25 @@ pub fn rejects_at_once() -> Draft<'static, Bytes> {
 }
 
 pub fn copy_marks() -> Draft<'static, Marks> {
-    Draft { states: &ACCEPTING, rules: &MARKS, outputs: &SAME_MARK[0..1] }
+    Draft {
+        states: &ACCEPTING,
+        rules: &MARKS,
+        outputs: &SAME_MARK[0..1],
+    }
 }
 
 pub fn copy_digits_apart() -> Draft<'static, Marks> {
-    Draft { states: &ACCEPTING, rules: &DIGITS_APART, outputs: &SAME_MARK }
+    Draft {
+        states: &ACCEPTING,
+        rules: &DIGITS_APART,
+        outputs: &SAME_MARK,
+    }
 }
 
 pub fn turn_marks() -> Draft<'static, Marks> {
-    Draft { states: &ACCEPTING, rules: &MARKS, outputs: &TURNED }
+    Draft {
+        states: &ACCEPTING,
+        rules: &MARKS,
+        outputs: &TURNED,
+    }
 }

@@ -3,7 +3,6 @@ use crate::samples;
 use alphabet::Alphabet;
 use builtin::bytes::escape;
 use comparing::compare_drafts;
-
 use marks::MarksAlphabet;
 use ranges::RangesAlphabet;
 use std::alloc::Global;
@@ -38,15 +37,35 @@ fn one_state_filters(rt: LibcRuntime) -> Result<(), Fail> {
 #[test]
 fn second_symbols_and_second_visits(rt: LibcRuntime) -> Result<(), Fail> {
     let heap = rt.alloc();
-    check(gives(heap, &samples::one_for_both(), &samples::copy_letters(), Some(&[0x62])))?;
-    check(gives(heap, &samples::crosses_twice(), &samples::crosses_once(), Some(&[0x62, 0x63])))
+    check(gives(
+        heap,
+        &samples::one_for_both(),
+        &samples::copy_letters(),
+        Some(&[0x62]),
+    ))?;
+    check(gives(
+        heap,
+        &samples::crosses_twice(),
+        &samples::crosses_once(),
+        Some(&[0x62, 0x63]),
+    ))
 }
 
 #[test]
 fn delays_and_rejections(rt: LibcRuntime) -> Result<(), Fail> {
     let heap = rt.alloc();
-    check(gives(heap, &samples::copy_letter(), &samples::delayed_letter(), None))?;
-    check(gives(heap, &samples::rejects_all(), &samples::rejects_at_once(), None))?;
+    check(gives(
+        heap,
+        &samples::copy_letter(),
+        &samples::delayed_letter(),
+        None,
+    ))?;
+    check(gives(
+        heap,
+        &samples::rejects_all(),
+        &samples::rejects_at_once(),
+        None,
+    ))?;
     check(gives(heap, &samples::rejects_all(), &samples::copy(), Some(&[])))?;
     check(gives(heap, &samples::copy_letter(), &samples::copy(), Some(&[0])))
 }
@@ -54,6 +73,16 @@ fn delays_and_rejections(rt: LibcRuntime) -> Result<(), Fail> {
 #[test]
 fn marks_compare(rt: LibcRuntime) -> Result<(), Fail> {
     let heap = rt.alloc();
-    check(gives(heap, &samples::copy_marks(), &samples::copy_digits_apart(), None))?;
-    check(gives(heap, &samples::copy_marks(), &samples::turn_marks(), Some(&[0])))
+    check(gives(
+        heap,
+        &samples::copy_marks(),
+        &samples::copy_digits_apart(),
+        None,
+    ))?;
+    check(gives(
+        heap,
+        &samples::copy_marks(),
+        &samples::turn_marks(),
+        Some(&[0]),
+    ))
 }

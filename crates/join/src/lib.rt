@@ -65,14 +65,7 @@ fn fill<'x, A: Alphabet>(
 {
     let counts = explore(first, second, &mut *queue, path, rules, &mut *outputs)?;
     let from = counts.outputs;
-    let total = add_states(
-        first,
-        second,
-        queue.entries(),
-        states,
-        &mut *outputs,
-        from,
-    )?;
+    let total = add_states(first, second, queue.entries(), states, &mut *outputs, from)?;
     outputs[0..total].rotate_left(from);
     Ok(Sizes {
         states: queue.made(),

@@ -59,7 +59,7 @@ put-behind v y out n e h =
     let long : length v ≡ n = ap length (sym e) ∙ length-take-le n out (omega arith) in
     let same : put 0 v out ≡ out = put-front v out (omega arith) ∙ ap (λ k. v ++ drop k out) long ∙ ap (λ l. l ++ drop n out) (sym e) ∙ take-append-drop n out in
     let whole : put n y out ≡ (v ++ y) ++ drop (length (v ++ y)) out =
-        ap (λ o. put n y o) (sym same) ∙ ap (λ k. put k y (put 0 v out)) (sym long ∙ zero (length v)) ∙ sym (put-append 0 v y out) ∙ put-front (v ++ y) out (omega (arith, length-append v y)) in
+    ap (λ o. put n y o) (sym same) ∙ ap (λ k. put k y (put 0 v out)) (sym long ∙ zero (length v)) ∙ sym (put-append 0 v y out) ∙ put-front (v ++ y) out (omega (arith, length-append v y)) in
     ap (take (n + length y)) whole ∙ take-at (v ++ y) (drop (length (v ++ y)) out) (n + length y) (omega (arith, length-append v y))
   where
     zero : (k : ℕ) → k ≡ 0 + k
@@ -80,8 +80,8 @@ module _ {G T : Type 0} (m : Model G T) (ts : List T) (i : ℕ) (t : T) (inside 
       let u = valuesOf m (take i ts) 0 in
       let rest = valuesOf m (drop (i + 1) ts) 0 in
       let split : valuesOf m ts 0 ≡ u ++ (s ∷ rest) =
-          ap (λ l. valuesOf m l 0) (sym (take-append-drop i ts) ∙ ap (λ l. take i ts ++ l) (drop-more ts i t inside ∙ ap (λ x. x ∷ drop (i + 1) ts) (sym read)))
-          ∙ values-append m (take i ts) (t ∷ drop (i + 1) ts) 0 ∙ ap (λ o. u ++ (listOf o ++ rest)) e in
+      ap (λ l. valuesOf m l 0) (sym (take-append-drop i ts) ∙ ap (λ l. take i ts ++ l) (drop-more ts i t inside ∙ ap (λ x. x ∷ drop (i + 1) ts) (sym read)))
+      ∙ values-append m (take i ts) (t ∷ drop (i + 1) ts) 0 ∙ ap (λ o. u ++ (listOf o ++ rest)) e in
       ap (λ l. run M l start) split ∙ run-append M u (s ∷ rest) start ∙ ap (λ o. andThen o (λ r. moved (r .1) (run M (s ∷ rest) (r .0)))) ran
       ∙ ap (λ o. moved w (andThen o (λ r. moved (r .1) (run M rest (r .0))))) none
 

@@ -71,8 +71,7 @@ pub fn final_of<A: Alphabet>(
     }
     let from = final_total(&first.states[0..state]);
     let to = from + entry.finals as usize;
-    let Some((reached, count)) =
-        run_constants(second, &first.outputs[from..to], pair.1, &mut *out)
+    let Some((reached, count)) = run_constants(second, &first.outputs[from..to], pair.1, &mut *out)
     else {
         return None;
     };

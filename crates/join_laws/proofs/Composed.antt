@@ -73,27 +73,31 @@ module _ {G T : Type 0} (m : Model G T) (law : Lawful m) (F H : Table G T) (okF 
   pub joined-composes : Composes (machineOf m F) (machineOf m H) (machineOf m (joined m F H)) (pairs m F H)
   unfolding joined finalAt
   joined-composes = record {
-      some = begins-length ((0, 0) ∷ []) P pairs-begin;
-      start = begins-at ((0, 0) ∷ []) P pairs-begin 0 (omega arith);
-      stays = λ i h s j w e. stay i h s j w (first (hits m s) (waysAt m F H (getD P i (0, 0)))) refl (sym (joined-step i s h) ∙ e);
-      step = λ i h s. ap (renamed P) (joined-step i s h) ∙ steps i h s (first (hits m s) (waysAt m F H (getD P i (0, 0)))) refl ∙ pair-step m law F H okF okH (getD P i (0, 0)) s;
-      final = λ i h. let k : i < length (map (finalAt m F H) P) = rw length-map h in final-same m law (map (finalAt m F H) P) (linesFor (waysAt m F H) P 0 P) i k symbols ∙ getD-map (finalAt m F H) P i (0, 0) None h;
-    }
+    some = begins-length ((0, 0) ∷ []) P pairs-begin;
+    start = begins-at ((0, 0) ∷ []) P pairs-begin 0 (omega arith);
+    stays = λ i h s j w e. stay i h s j w (first (hits m s) (waysAt m F H (getD P i (0, 0)))) refl (sym (joined-step i s h) ∙ e);
+    step = λ i h s. ap (renamed P) (joined-step i s h) ∙ steps i h s (first (hits m s) (waysAt m F H (getD P i (0, 0)))) refl ∙ pair-step m law F H okF okH (getD P i (0, 0)) s;
+    final = λ i h. let k : i < length (map (finalAt m F H) P) = rw length-map h in final-same m law (map (finalAt m F H) P) (linesFor (waysAt m F H) P 0 P) i k symbols ∙ getD-map (finalAt m F H) P i (0, 0) None h;
+  }
     where
       P : List Pair
       P = pairs m F H
+
       symbols : All (Symbols m) (map (finalAt m F H) P)
       symbols = all-map (Symbols m) (finalAt m F H) P (each P)
         where
           each : (xs : List Pair) → All (λ x. Symbols m (finalAt m F H x)) xs
           each [] = tt
           each (x ∷ xs) = (finals-inside m law F H okH x, each xs)
+
       lead : (i : ℕ) → i < length P → (s : ℕ) (w : Way G T Pair) → first (hits m s) (waysAt m F H (getD P i (0, 0))) ≡ Some w → In P (w .to)
       lead i h s w e = first-all (hits m s) (λ (v : Way G T Pair). In P (v .to)) (waysAt m F H (getD P i (0, 0))) w (ways-lead i h) e
+
       stay : (i : ℕ) → i < length P → (s j : ℕ) (v : List ℕ) (o : Option (Way G T Pair)) → first (hits m s) (waysAt m F H (getD P i (0, 0))) ≡ o
           → andThen (mapped (numbered P i) o) (goes m s) ≡ Some (j, v) → j < length P
       stay i h s j v None e k = absurd (grind arith)
       stay i h s j v (Some w) e k = subst (λ n. n < length P) (state-same (place P (w .to)) j (valuesOf m (w .outputs) s) v k) (lead i h s w e)
+
       steps : (i : ℕ) → i < length P → (s : ℕ) (o : Option (Way G T Pair)) → first (hits m s) (waysAt m F H (getD P i (0, 0))) ≡ o
           → renamed P (andThen (mapped (numbered P i) o) (goes m s)) ≡ andThen (first (hits m s) (waysAt m F H (getD P i (0, 0)))) (takes m s)
       steps i h s None e = rw e

@@ -64,8 +64,10 @@ module _ {G T : Type 0} (m : Model G T) where
     where
       later : (j : ℕ) → f (i + 1 + j) ≡ stretch width rs j (drop (r .outputs) ts)
       later j = let e : i + 1 + j ≡ i + suc j = omega arith in ap f e ∙ h (suc j)
+
       here : f i ≡ take (r .outputs) ts
       here = let e : i ≡ i + 0 = omega arith in ap f e ∙ h 0
+
       go : (b : Bool) → andThen (pick m p s (i + 1) rs) (λ x. Some (x .1 .next, valuesOf m (f (x .0)) s)) ≡ move m (linesFrom rs (drop (r .outputs) ts)) p s
           → andThen (cond b (Some (i, r)) (pick m p s (i + 1) rs)) (λ x. Some (x .1 .next, valuesOf m (f (x .0)) s))
           ≡ andThen (cond b (Some (lineOf r (take (r .outputs) ts))) (first (fires m p s) (linesFrom rs (drop (r .outputs) ts)))) (goes m s)
@@ -85,22 +87,25 @@ module _ {G T : Type 0} (m : Model G T) where
   pub lines-good : (F : Table G T) → Sound m F → Good (length (F .states)) (linesOf F)
   unfolding linesOf
   lines-good F S = record {
-      from = each (λ l. l .state < n) (λ i r e. S .from i r e);
-      to = each (λ l. l .next < n) (λ i r e. S .to i r e);
-      guards = each (λ l. SoundGuard m (l .guard)) (λ i r e. S .guard i r e);
-      fits = each (λ l. Fits (l .guard) (l .outputs)) (λ i r e. suits-valued (r .guard) (ruleOutputs F i) (S .output i r e));
-      apart = λ q s. alone-from-places (fires m q s) ls (two q s);
-    }
+    from = each (λ l. l .state < n) (λ i r e. S .from i r e);
+    to = each (λ l. l .next < n) (λ i r e. S .to i r e);
+    guards = each (λ l. SoundGuard m (l .guard)) (λ i r e. S .guard i r e);
+    fits = each (λ l. Fits (l .guard) (l .outputs)) (λ i r e. suits-valued (r .guard) (ruleOutputs F i) (S .output i r e));
+    apart = λ q s. alone-from-places (fires m q s) ls (two q s);
+  }
     where
       n : ℕ
       n = length (F .states)
+
       ls : List (Line G T)
       ls = linesFrom (F .rules) (allRuleOutputs F)
+
       each : (P : Line G T → Type 0) → ((i : ℕ) (r : Rule G) → nth (F .rules) i ≡ Some r → P (lineOf r (ruleOutputs F i))) → All P ls
       each P h = all-from-at-each P ls (λ i l e. found i l (nth-lines (F .rules) (allRuleOutputs F) i l e))
         where
           found : (i : ℕ) (l : Line G T) → (r : Rule G) × (nth (F .rules) i ≡ Some r) × (l ≡ lineOf r (ruleOutputs F i)) → P l
           found i l (r, a, b) = subst P (sym b) (h i r a)
+
       two : (q s i j : ℕ) (x y : Line G T) → i < j → nth ls i ≡ Some x → nth ls j ≡ Some y → fires m q s x ≡ true → fires m q s y ≡ true → ⊥
       two q s i j x y l e f t u = both (nth-lines (F .rules) (allRuleOutputs F) i x e) (nth-lines (F .rules) (allRuleOutputs F) j y f)
         where

@@ -127,8 +127,8 @@ module _ {G T : Type 0} (m : Model G T) (law : Lawful m) (F H : Table G T) (okF 
       go l (sl, to, lf) true =
           all-map GoodWay (aimed (l .next)) (ways m (linesOf H) (l .outputs) (x .1) (l .guard))
           (all-weaker (Fitting m law (length (H .states)) (linesOf H) goodH (l .guard)) (λ w. GoodWay (aimed (l .next) w))
-            (λ w (sw, ends, at). (sw, (to, ends), λ s k. at s k .1)) (ways m (linesOf H) (l .outputs) (x .1) (l .guard))
-            (ways-fit m law (length (H .states)) (linesOf H) goodH (l .outputs) (x .1) (l .guard) sl below (line-terms l sl lf) lf))
+          (λ w (sw, ends, at). (sw, (to, ends), λ s k. at s k .1)) (ways m (linesOf H) (l .outputs) (x .1) (l .guard))
+          (ways-fit m law (length (H .states)) (linesOf H) goodH (l .outputs) (x .1) (l .guard) sl below (line-terms l sl lf) lf))
 
   pub targets-within : (x : Pair) → Within (length (F .states)) (length (H .states)) x → All (Within (length (F .states)) (length (H .states))) (targetsAt m F H x)
   targets-within x w =

@@ -136,8 +136,10 @@ few a b P d all = pigeon (a * b) (length P) (code b P) below apart
   where
     within : (i : ℕ) → i < length P → Within a b (getD P i (0, 0))
     within i h = all-getD (Within a b) P i (0, 0) h all
+
     below : (i : ℕ) → i < length P → code b P i < a * b
     below i h = digits-lt (within i h .0) (within i h .1)
+
     apart : (i j : ℕ) → i < length P → j < length P → code b P i ≡ code b P j → i ≡ j
     apart i j h k e =
         let x = getD P i (0, 0) in

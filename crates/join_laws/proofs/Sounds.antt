@@ -132,27 +132,32 @@ module _ {G T : Type 0} (m : Model G T) (law : Lawful m) where
 
     lines-good : Good m (length (pairs m F H)) (linesFor (waysAt m F H) (pairs m F H) 0 (pairs m F H))
     lines-good = record {
-        from = each (λ l. l .state < n) (λ x. Unit {0}) (λ i x h _. always i h (waysAt m F H x)) (nothing P);
-        to = each (λ l. l .next < n) (λ x. All (λ (w : Way G T Pair). In P (w .to)) (waysAt m F H x)) (λ i x h c. c) leads;
-        guards = each (λ l. SoundGuard m (l .guard)) (λ x. All (GoodWay m law F H okF okH) (waysAt m F H x))
+      from = each (λ l. l .state < n) (λ x. Unit {0}) (λ i x h _. always i h (waysAt m F H x)) (nothing P);
+      to = each (λ l. l .next < n) (λ x. All (λ (w : Way G T Pair). In P (w .to)) (waysAt m F H x)) (λ i x h c. c) leads;
+      guards = each (λ l. SoundGuard m (l .guard)) (λ x. All (GoodWay m law F H okF okH) (waysAt m F H x))
           (λ i x h c. all-weaker (GoodWay m law F H okF okH) (λ (w : Way G T Pair). SoundGuard m (w .guard)) (λ w k. k .0) (waysAt m F H x) c) ways-good;
-        fits = each (λ l. Fits m (l .guard) (l .outputs)) (λ x. All (GoodWay m law F H okF okH) (waysAt m F H x))
+      fits = each (λ l. Fits m (l .guard) (l .outputs)) (λ x. All (GoodWay m law F H okF okH) (waysAt m F H x))
           (λ i x h c. all-weaker (GoodWay m law F H okF okH) (λ (w : Way G T Pair). Fits m (w .guard) (w .outputs)) (λ w k. k .2) (waysAt m F H x) c) ways-good;
-        apart = λ q s. lines-apart m (waysAt m F H) P P q 0 s (λ x. pair-apart m law F H okF okH x s);
-      }
+      apart = λ q s. lines-apart m (waysAt m F H) P P q 0 s (λ x. pair-apart m law F H okF okH x s);
+    }
       where
         P : List Pair
         P = pairs m F H
+
         n : ℕ
         n = length (pairs m F H)
+
         each : (R : Line G T → Type 0) (C : Pair → Type 0) → ((i : ℕ) (x : Pair) → i < length P → C x → All (λ w. R (numbered P i w)) (waysAt m F H x)) → All C P → All R (linesFor (waysAt m F H) P 0 P)
         each R C h all = lines-each m (waysAt m F H) P R C (length P) h P 0 all (omega arith)
+
         always : (i : ℕ) → i < n → (ws : List (Way G T Pair)) → All (λ (w : Way G T Pair). i < n) ws
         always i h [] = tt
         always i h (w ∷ ws) = (h, always i h ws)
+
         nothing : (xs : List Pair) → All (λ x. Unit {0}) xs
         nothing [] = tt
         nothing (x ∷ xs) = (tt, nothing xs)
+
         leads : All (λ x. All (λ (w : Way G T Pair). In P (w .to)) (waysAt m F H x)) P
         leads = all-from-getD (λ x. All (λ (w : Way G T Pair). In P (w .to)) (waysAt m F H x)) P (0, 0) (ways-lead m law F H okF okH)
 

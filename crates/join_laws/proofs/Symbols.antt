@@ -76,9 +76,11 @@ module _ {G T : Type 0} (m : Model G T) (law : Lawful m) where
       where
         valued : All (Valued m 0) (finalOutputs F q)
         valued = all-weaker (Constant m) (Valued m 0) (λ t k. (k .0, (k .1 .0, k .1 .1 0 (omega (arith, law .size-low))))) (finalOutputs F q) (S .final q)
+
         by : (b : Bool) → Symbols m (cond b (Some (valuesOf m (finalOutputs F q) 0)) None)
         by true = values-inside (finalOutputs F q) 0 valued
         by false = tt
+
         go : (o : Option State) → Symbols m (andThen o (λ (e : State). cond (eqb (e .mark) 1) (Some (valuesOf m (finalOutputs F q) 0)) None))
         go None = tt
         go (Some e) = by (eqb (e .mark) 1)

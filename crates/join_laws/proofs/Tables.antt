@@ -108,6 +108,7 @@ module _ {G T : Type 0} (m : Model G T) where
         state-at [] i h = absurd (omega arith)
         state-at (f ∷ fs) zero h = refl
         state-at (f ∷ fs) (suc i) h = state-at fs i (omega arith)
+
         go : (o : Option (List ℕ)) → Symbols o → cond (eqb (stateOf o .mark) 1) (Some (valuesOf m (constants m o) 0)) None ≡ o
         go None s = refl
         go (Some w) s = ap Some (constants-values w s)

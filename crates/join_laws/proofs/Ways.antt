@@ -95,7 +95,7 @@ module _ {G T : Type 0} (m : Model G T) where
       ways-outside (t ∷ ts) q g s sg (st, all) e =
           gathered-none (hits m s) (by ts t q g) L
           (all-weaker (λ (l : Line G T). SoundGuard m (l .guard)) (λ l. first (hits m s) (by ts t q g l) ≡ None)
-            (λ l sl. by-none ts t q g s sg st (λ q′ g′ k. ways-outside ts q′ g′ s k all) l sl (let z = e in grind arith)) L (good .guards))
+          (λ l sl. by-none ts t q g s sg st (λ q′ g′ k. ways-outside ts q′ g′ s k all) l sl (let z = e in grind arith)) L (good .guards))
 
       others-none : (ts : List T) (t : T) (q : ℕ) (g : G) (s : ℕ) → SoundGuard m g → SoundTerm m t → All (SoundTerm m) ts
           → All (λ l. meets t q g s l ≡ false → first (hits m s) (by ts t q g l) ≡ None) L
@@ -118,7 +118,7 @@ module _ {G T : Type 0} (m : Model G T) where
       ways-apart (t ∷ ts) q g s sg (st, all) =
           alone-gathered (meets t q g s) (hits m s) (by ts t q g) L (meets-alone t q g s) (others-none ts t q g s sg st all)
           (all-weaker (λ (l : Line G T). SoundGuard m (l .guard)) (λ l. Alone (hits m s) (by ts t q g l))
-            (λ l sl. go l sl (eqb (l .state) q) (m .narrowed g t (l .guard)) refl (λ h k. ways-apart ts (l .next) h s k all)) L (good .guards))
+          (λ l sl. go l sl (eqb (l .state) q) (m .narrowed g t (l .guard)) refl (λ h k. ways-apart ts (l .next) h s k all)) L (good .guards))
         where
           go : (l : Line G T) → SoundGuard m (l .guard) → (b : Bool) (o : Option G) → m .narrowed g t (l .guard) ≡ o
               → ((h : G) → SoundGuard m h → Alone (hits m s) (ways m L ts (l .next) h))
@@ -156,8 +156,8 @@ module _ {G T : Type 0} (m : Model G T) where
       ways-fit (t ∷ ts) q g sg below (st, sts) fits =
           all-gathered (Fitting g) (by ts t q g) L
           (all-weaker (λ (l : Line G T). SoundGuard m (l .guard) × (l .next < n) × Fits m (l .guard) (l .outputs)) (λ l. All (Fitting g) (by ts t q g l))
-            (λ l (sl, to, lf). go l sl lf (eqb (l .state) q) (m .narrowed g t (l .guard)) refl
-              (λ h sh in-h. ways-fit ts (l .next) h sh to sts in-h)) L lines-all)
+          (λ l (sl, to, lf). go l sl lf (eqb (l .state) q) (m .narrowed g t (l .guard)) refl
+          (λ h sh in-h. ways-fit ts (l .next) h sh to sts in-h)) L lines-all)
         where
           go : (l : Line G T) → SoundGuard m (l .guard) → Fits m (l .guard) (l .outputs) → (b : Bool) (o : Option G) → m .narrowed g t (l .guard) ≡ o
               → ((h : G) → SoundGuard m h → Fits m h ts → All (Fitting h) (ways m L ts (l .next) h))
@@ -167,10 +167,11 @@ module _ {G T : Type 0} (m : Model G T) where
           go l sl lf true (Some h) e ih =
               all-map (Fitting g) (fronted m t (l .outputs)) (ways m L ts (l .next) h)
               (all-weaker (Fitting h) (λ w. Fitting g (fronted m t (l .outputs) w)) each (ways m L ts (l .next) h)
-                (ih h (law .narrowed-sound g (l .guard) h t sg st sl e) (λ s k. rest s (narrowed-at g h t l s sg st sl e k))))
+              (ih h (law .narrowed-sound g (l .guard) h t sg st sl e) (λ s k. rest s (narrowed-at g h t l s sg st sl e k))))
             where
               rest : (s : ℕ) → (c : ℕ) × (m .holds g s ≡ true) × (m .value t s ≡ Some c) × (m .holds (l .guard) c ≡ true) → All (Valued m s) ts
               rest s (c, a, b, d) = fits s a .1
+
               each : (w : Way G T ℕ) → Fitting h w → Fitting g (fronted m t (l .outputs) w)
               each w (sw, ends, at) = (sw, ends, λ s k. here s k (at s k) (narrowed-at g h t l s sg st sl e (at s k .0)))
                 where
@@ -194,10 +195,12 @@ module _ {G T : Type 0} (m : Model G T) where
           where
             sts : All (SoundTerm m) ts
             sts = all-weaker (Valued m s) (SoundTerm m) (λ u h. h .0) ts all
+
             others : All (λ l. fires m q c l ≡ false → first (hits m s) (by ts t q g l) ≡ None) L
             others =
                 all-weaker (λ l. meets t q g s l ≡ false → first (hits m s) (by ts t q g l) ≡ None) (λ l. fires m q c l ≡ false → first (hits m s) (by ts t q g l) ≡ None)
                 (λ l h f. h (rw (e, is) f)) L (others-none ts t q g s sg st sts)
+
             go : (o : Option (Line G T)) → first (fires m q c) L ≡ o
                 → ((q′ : ℕ) (h : G) → SoundGuard m h → m .holds h s ≡ true → taken m (ways m L ts q′ h) s ≡ run M (valuesOf m ts s) q′)
                 → andThen (andThen o (λ l. first (hits m s) (by ts t q g l))) (takes m s)
@@ -207,8 +210,10 @@ module _ {G T : Type 0} (m : Model G T) where
               where
                 sl : SoundGuard m (l .guard)
                 sl = first-all (fires m q c) (λ (k : Line G T). SoundGuard m (k .guard)) L l (good .guards) f
+
                 lf : Fits m (l .guard) (l .outputs)
                 lf = first-all (fires m q c) (λ (k : Line G T). Fits m (k .guard) (k .outputs)) L l (good .fits) f
+
                 through : (b : Bool) (o : Option G) → m .narrowed g t (l .guard) ≡ o → (b && m .holds (l .guard) c) ≡ true
                     → andThen (first (hits m s) (cond b (onSome o (λ h. map (fronted m t (l .outputs)) (ways m L ts (l .next) h))) [])) (takes m s)
                     ≡ moved (valuesOf m (l .outputs) c) (run M (valuesOf m ts s) (l .next))

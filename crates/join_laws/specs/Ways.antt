@@ -34,7 +34,7 @@ module _ {G T : Type 0} (m : Model G T) where
   ways lines [] q g = record { guard = g; to = q; outputs = [] } ∷ []
   ways lines (t ∷ ts) q g =
       gathered (λ l. cond (eqb (l .state) q)
-        (onSome (m .narrowed g t (l .guard)) (λ h. map (fronted t (l .outputs)) (ways lines ts (l .next) h))) []) lines
+      (onSome (m .narrowed g t (l .guard)) (λ h. map (fronted t (l .outputs)) (ways lines ts (l .next) h))) []) lines
 
   abbrev pub hits : {S : Type 0} → ℕ → Way G T S → Bool
   hits s w = m .holds (w .guard) s

@@ -88,13 +88,14 @@ module _ {G : Type 0} (p : ℕ) (P₀ : List Pair) (rules₀ : List (Rule G)) wh
           let ts = targetsOf p (take (i + 1) rules₀) in
           let us = targetsOf p (drop (i + 1) rules₀) in
           let whole : metAll (metAll P₀ ts) us ≡ metAll P₀ (targetsOf p rules₀) =
-              sym (metAll-append P₀ ts us) ∙ ap (metAll P₀) (sym (map-append (λ (x : Rule G). (p, x .next)) (take (i + 1) rules₀) (drop (i + 1) rules₀)) ∙ ap (targetsOf p) (take-append-drop (i + 1) rules₀)) in
+          sym (metAll-append P₀ ts us) ∙ ap (metAll P₀) (sym (map-append (λ (x : Rule G). (p, x .next)) (take (i + 1) rules₀) (drop (i + 1) rules₀)) ∙ ap (targetsOf p) (take-append-drop (i + 1) rules₀)) in
           omega (arith, ap length met-more, begins-length (metAll P₀ ts) (metAll (metAll P₀ ts) us) (metAll-begins (metAll P₀ ts) us), ap length whole)
 
   pub partly-done : (i : ℕ) (P : List Pair) (rules : List (Rule G)) → Partly i P rules → length rules₀ ≤ i → (P ≡ metAll P₀ (targetsOf p rules₀)) × (rules ≡ map (renumbered P p) rules₀)
-  partly-done i P rules k h =
-      (k .met-are ∙ ap (λ l. metAll P₀ (targetsOf p l)) (take-all i rules₀ h),
-       k .rules-are ∙ ap (λ l. map (renumbered P p) l ++ drop i rules₀) (take-all i rules₀ h) ∙ ap (λ l. map (renumbered P p) rules₀ ++ l) (drop-all i rules₀ h) ∙ append-nil (map (renumbered P p) rules₀))
+  partly-done i P rules k h = (
+    k .met-are ∙ ap (λ l. metAll P₀ (targetsOf p l)) (take-all i rules₀ h),
+    k .rules-are ∙ ap (λ l. map (renumbered P p) l ++ drop i rules₀) (take-all i rules₀ h) ∙ ap (λ l. map (renumbered P p) rules₀ ++ l) (drop-all i rules₀ h) ∙ append-nil (map (renumbered P p) rules₀),
+  )
 
 -- a number for a new entry, or none
 pub number-given : {E : Type 0} (a r n : ℕ) (e : E) → _≡_ {A = Result ℕ E} (Ok n) (cond (ltb a r) (Ok a) (Err e)) → (n ≡ a) × (a < r)

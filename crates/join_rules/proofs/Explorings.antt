@@ -111,11 +111,11 @@ module _ {G T : Type 0} (m : Model G T) (law : Lawful m) (F H : Table G T) (okF 
           let one : suc k ≡ k + 1 = omega arith in
           record {
             taken = subst (λ i. Taken (targetsAt m F H) (length (F .states)) (length (H .states)) i Q) one
-              (subst (Taken (targetsAt m F H) (length (F .states)) (length (H .states)) (suc k)) (sym (t .0 ∙ met-now))
+                (subst (Taken (targetsAt m F H) (length (F .states)) (length (H .states)) (suc k)) (sym (t .0 ∙ met-now))
                 (taken-next (targetsAt m F H) (length (F .states)) (length (H .states)) (targets-within m law F H okF okH) k P (V .taken) h));
             left = ap (explored (targetsAt m F H) (length (F .states) * length (H .states) - (k + 1)) (k + 1)) (t .0) ∙ next-left;
             added = subst (λ ls. Added zero d′ ls R R″ O O″) (lines-on Q grows)
-              (added-more zero d (linesFor (waysAt m F H) P 0 (take k P)) R R′ O O′ (V .added) (map (numbered Q k) (waysAt m F H x)) d′ R″ O″ (t .2));
+                (added-more zero d (linesFor (waysAt m F H) P 0 (take k P)) R R′ O O′ (V .added) (map (numbered Q k) (waysAt m F H x)) d′ R″ O″ (t .2));
             low = t .1;
           }
 

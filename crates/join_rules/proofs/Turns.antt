@@ -79,9 +79,9 @@ module _ {G T : Type 0} (m : Model G T) (F H : Table G T) (x : Pair) (k room : �
           append-assoc (V .done) vs (remaining (j + 1) (start + r .outputs))
           ∙ ap (λ l. V .done ++ (l ++ remaining (j + 1) (start + r .outputs))) (sym e)
           ∙ ap (λ l. V .done ++ gathered fromLine l) (sym (
-              at-drop-more (λ rs. linesFrom rs (drop start (F .outputs))) (F .rules) j r h
-              ∙ ap (λ (y : Rule G). lineOf y (take (y .outputs) (drop start (F .outputs))) ∷ linesFrom (drop (j + 1) (F .rules)) (drop (y .outputs) (drop start (F .outputs)))) (sym read)
-              ∙ ap (λ l. line ∷ linesFrom (drop (j + 1) (F .rules)) l) (drop-drop (r .outputs) start (F .outputs))))
+          at-drop-more (λ rs. linesFrom rs (drop start (F .outputs))) (F .rules) j r h
+          ∙ ap (λ (y : Rule G). lineOf y (take (y .outputs) (drop start (F .outputs))) ∷ linesFrom (drop (j + 1) (F .rules)) (drop (y .outputs) (drop start (F .outputs)))) (sym read)
+          ∙ ap (λ l. line ∷ linesFrom (drop (j + 1) (F .rules)) l) (drop-drop (r .outputs) start (F .outputs))))
           ∙ V .left
 
       pub walking-skip : eqb (r .state) (x .0) ≡ false → Walking (j + 1) (start + r .outputs) d P′ R′ O′

@@ -53,14 +53,15 @@ module _ {G T : Type 0} where
   -- what fits does not depend on the numbers
   pub fits-numbers : (c : Counts) (P Q : List Pair) (k : ℕ) (ws : List (Way G T Pair)) (R : List (Rule G)) (O : List T) → Fits c (map (numbered P k) ws) R O → Fits c (map (numbered Q k) ws) R O
   fits-numbers c P Q k ws R O f = record {
-      rules-fit = omega (arith, f .rules-fit, length-map ws (numbered P k), length-map ws (numbered Q k));
-      outputs-fit = omega (arith, f .outputs-fit, ap length (same ws));
-      short = shorts ws (f .short);
-    }
+    rules-fit = omega (arith, f .rules-fit, length-map ws (numbered P k), length-map ws (numbered Q k));
+    outputs-fit = omega (arith, f .outputs-fit, ap length (same ws));
+    short = shorts ws (f .short);
+  }
     where
       same : (vs : List (Way G T Pair)) → outputsOf (map (numbered P k) vs) ≡ outputsOf (map (numbered Q k) vs)
       same [] = refl
       same (w ∷ vs) = ap (λ l. w .outputs ++ l) (same vs)
+
       shorts : (vs : List (Way G T Pair)) → All (λ (l : Line G T). length (l .outputs) ≤ 32) (map (numbered P k) vs) → All (λ (l : Line G T). length (l .outputs) ≤ 32) (map (numbered Q k) vs)
       shorts [] all = tt
       shorts (w ∷ vs) all = (all .0, shorts vs (all .1))
@@ -80,10 +81,10 @@ module _ {G T : Type 0} where
 
     pub fits-raw : (c : Counts) (W : List (Way G T ℕ)) (R : List (Rule G)) (O : List T) → Fits c (map (numbered P k) (map (aimed p) W)) R O → Fits c (map (rawLine k []) W) R O
     fits-raw c W R O f = record {
-        rules-fit = omega (arith, f .rules-fit, long-aimed W);
-        outputs-fit = omega (arith, f .outputs-fit, ap length (outputs-aimed W));
-        short = shorts W (f .short);
-      }
+      rules-fit = omega (arith, f .rules-fit, long-aimed W);
+      outputs-fit = omega (arith, f .outputs-fit, ap length (outputs-aimed W));
+      short = shorts W (f .short);
+    }
       where
         shorts : (V : List (Way G T ℕ)) → All (λ (l : Line G T). length (l .outputs) ≤ 32) (map (numbered P k) (map (aimed p) V)) → All (λ (l : Line G T). length (l .outputs) ≤ 32) (map (rawLine k []) V)
         shorts [] all = tt
@@ -116,32 +117,38 @@ module _ {G T : Type 0} where
       pub added-numbered : (R₂ Y : List (Rule G)) → R₂ ≡ putMid (d .rules) (e .rules - d .rules) R₁ Y → Y ≡ map (renumbered P p) (map ruleOf (map (rawLine k []) W))
           → Added d e (map (numbered P k) (map (aimed p) W)) R R₂ O O₁
       added-numbered R₂ Y is ys = record {
-          fits = record {
-            rules-fit = omega (arith, a .fits .rules-fit, long-aimed W);
-            outputs-fit = omega (arith, a .fits .outputs-fit, ap length (outputs-aimed W));
-            short = shorts W (a .fits .short);
-          };
-          rule-count = a .rule-count ∙ ap (λ n. d .rules + n) (sym (long-aimed W));
-          output-count = a .output-count ∙ ap (λ l. d .outputs + length l) (outputs-aimed W);
-          rules-are = is ∙ middle;
-          outputs-are = a .outputs-are ∙ ap (λ l. spliced (d .outputs) l O) (outputs-aimed W);
-        }
+        fits = record {
+          rules-fit = omega (arith, a .fits .rules-fit, long-aimed W);
+          outputs-fit = omega (arith, a .fits .outputs-fit, ap length (outputs-aimed W));
+          short = shorts W (a .fits .short);
+        };
+        rule-count = a .rule-count ∙ ap (λ n. d .rules + n) (sym (long-aimed W));
+        output-count = a .output-count ∙ ap (λ l. d .outputs + length l) (outputs-aimed W);
+        rules-are = is ∙ middle;
+        outputs-are = a .outputs-are ∙ ap (λ l. spliced (d .outputs) l O) (outputs-aimed W);
+      }
         where
           shorts : (V : List (Way G T ℕ)) → All (λ (l : Line G T). length (l .outputs) ≤ 32) (map (rawLine k []) V) → All (λ (l : Line G T). length (l .outputs) ≤ 32) (map (numbered P k) (map (aimed p) V))
           shorts [] all = tt
           shorts (w ∷ V) all = (all .0, shorts V (all .1))
+
           Z : List (Rule G)
           Z = map ruleOf (map (numbered P k) (map (aimed p) W))
+
           long : length (map ruleOf (map (numbered P k) (map (aimed p) W))) ≡ length (map ruleOf (map (rawLine {G = G} {T = T} k []) W))
           long = length-map (map (numbered P k) (map (aimed p) W)) ruleOf ∙ long-aimed W ∙ sym (length-map (map (rawLine {G = G} {T = T} k []) W) ruleOf)
+
           fit : d .rules + length (map ruleOf (map (rawLine {G = G} {T = T} k []) W)) ≤ length R
           fit = omega (arith, a .fits .rules-fit, length-map (map (rawLine {G = G} {T = T} k []) W) ruleOf)
+
           start : take (d .rules) R₁ ≡ take (d .rules) R
           start = ap (take (d .rules)) (a .rules-are) ∙ take-front (d .rules) (map ruleOf (map (rawLine k []) W)) R front
+
           post : postOf (d .rules) (e .rules - d .rules) R₁ ≡ drop (d .rules + length (map ruleOf (map (rawLine {G = G} {T = T} k []) W))) R
           post =
               ap (λ n. postOf (d .rules) n R₁) size ∙ post-is (d .rules) (length (map ruleOf (map (rawLine {G = G} {T = T} k []) W))) R₁
               ∙ ap (drop (d .rules + length (map ruleOf (map (rawLine {G = G} {T = T} k []) W)))) (a .rules-are) ∙ drop-spliced (d .rules) (map ruleOf (map (rawLine k []) W)) R fit
+
           middle : putMid (d .rules) (e .rules - d .rules) R₁ Y ≡ spliced (d .rules) (map ruleOf (map (numbered P k) (map (aimed p) W))) R
           middle =
               ap (λ l. l ++ (Y ++ postOf (d .rules) (e .rules - d .rules) R₁)) start
@@ -163,10 +170,12 @@ module _ {G T : Type 0} where
 
     pub took-more : (e : Counts) (P₂ : List Pair) (R₂ : List (Rule G)) (O₂ : List T) → Took k vs P₁ room d e R₁ O₁ P₂ R₂ O₂ → Took k (ws ++ vs) P room c e R O P₂ R₂ O₂
     took-more e P₂ R₂ O₂ b =
-        let grows : Begins P₁ P₂ = subst (Begins P₁) (sym (b .0)) (metAll-begins P₁ (targets vs)) in
-        (b .0 ∙ all-met, b .1,
-         subst (λ ls. Added c e ls R R₂ O O₂) (ap (λ l. l ++ map (numbered P₂ k) vs) (kept-lines P₂ grows) ∙ sym (map-append (numbered P₂ k) ws vs))
-           (added-more c d (map (numbered P₁ k) ws) R R₁ O O₁ (a .2) (map (numbered P₂ k) vs) e R₂ O₂ (b .2)))
+        let grows : Begins P₁ P₂ = subst (Begins P₁) (sym (b .0)) (metAll-begins P₁ (targets vs)) in (
+          b .0 ∙ all-met,
+          b .1,
+          subst (λ ls. Added c e ls R R₂ O O₂) (ap (λ l. l ++ map (numbered P₂ k) vs) (kept-lines P₂ grows) ∙ sym (map-append (numbered P₂ k) ws vs))
+              (added-more c d (map (numbered P₁ k) ws) R R₁ O O₁ (a .2) (map (numbered P₂ k) vs) e R₂ O₂ (b .2)),
+        )
 
     pub took-refused : (rest : List (Way G T Pair)) → (let Q = metAll P₁ (targets vs) in length Q ≤ room → Fits d (map (numbered Q k) vs) R₁ O₁ → ⊥)
         → let Q = metAll P (targets ((ws ++ vs) ++ rest)) in length Q ≤ room → Fits c (map (numbered Q k) ((ws ++ vs) ++ rest)) R O → ⊥

@@ -52,16 +52,7 @@ fn add_line<A: Alphabet>(
     ensures room { λ _. ⌜ room (now (queue .exit)) ≡ room (now (queue .entry)) ⌝ }
 {
     let before = counts.rules;
-    let so_far = add_ways(
-        course,
-        0,
-        state,
-        guard,
-        path,
-        &mut *rules,
-        outputs,
-        counts,
-    )?;
+    let so_far = add_ways(course, 0, state, guard, path, &mut *rules, outputs, counts)?;
     let after = so_far.rules;
     number_targets(queue, next, &mut rules[before..after])?;
     Ok(so_far)
@@ -104,7 +95,15 @@ fn add_pair<'x, A: Alphabet>(
                 number,
             };
             so_far = add_line(
-                &course, rule.next, pair.1, rule.guard, queue, path, rules, outputs, so_far,
+                &course,
+                rule.next,
+                pair.1,
+                rule.guard,
+                queue,
+                path,
+                rules,
+                outputs,
+                so_far,
             )?;
         }
     }

@@ -46,7 +46,7 @@ module _ {G T : Type 0} (m : Model G T) (at : ℕ) (os : List (Option (List ℕ)
           record {
             states-mid = subst (λ l. Mid 0 (i + 1) l S (set S′ i (stateOf o))) (sym (ap (map stateOf) front ∙ map-append stateOf (take i os) (o ∷ []))) (mid-push 0 i (map stateOf (take i os)) S S′ (stateOf o) (E .states-mid) (omega arith));
             outputs-mid = subst (λ l. Mid at n l O O″) outs (mid-more at place n (gathered (constants m) (take i os)) (constants m o) O O′ O″ (E .outputs-mid)
-              (record { ends = e; room = omega (arith, r .fits, ap length (append-nil (constants m o))); is = w }));
+                (record { ends = e; room = omega (arith, r .fits, ap length (append-nil (constants m o))); is = w }));
             short = subst (All (λ x. stateOf x .finals ≤ 32)) (sym front) (all-append (λ x. stateOf x .finals ≤ 32) (take i os) (o ∷ []) (E .short) (r .short));
           }
 

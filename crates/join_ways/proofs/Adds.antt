@@ -119,10 +119,10 @@ module _ {G T : Type 0} where
   -- a front fits where the whole does
   pub fits-front : (c : Counts) (ls ks : List (Line G T)) (R : List (Rule G)) (O : List T) → Fits c (ls ++ ks) R O → Fits c ls R O
   fits-front c ls ks R O f = record {
-      rules-fit = omega (arith, f .rules-fit, length-append ls ks);
-      outputs-fit = omega (arith, f .outputs-fit, ap length (outputs-append ls ks), length-append (outputsOf ls) (outputsOf ks));
-      short = front ls (f .short);
-    }
+    rules-fit = omega (arith, f .rules-fit, length-append ls ks);
+    outputs-fit = omega (arith, f .outputs-fit, ap length (outputs-append ls ks), length-append (outputsOf ls) (outputsOf ks));
+    short = front ls (f .short);
+  }
     where
       front : (xs : List (Line G T)) → All (λ (l : Line G T). length (l .outputs) ≤ 32) (xs ++ ks) → All (λ (l : Line G T). length (l .outputs) ≤ 32) xs
       front [] all = tt

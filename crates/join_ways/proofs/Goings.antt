@@ -153,4 +153,4 @@ module _ {G T : Type 0} (m : Model G T) where
           pub going-refused : (Fits d deeper R′ O′ → ⊥) → Fits c (map (rawLine k acc) (ways m (linesOf F) (t ∷ ts) q g)) R O → ⊥
           going-refused over f =
               over (fits-rest c d (G₀ .done) R R′ O O′ (G₀ .added) deeper
-                (fits-front c (G₀ .done ++ deeper) (remaining (j + 1) (start + r .outputs)) R O (subst (λ ls. Fits c ls R O) (sym whole) f)))
+              (fits-front c (G₀ .done ++ deeper) (remaining (j + 1) (start + r .outputs)) R O (subst (λ ls. Fits c ls R O) (sym whole) f)))

@@ -56,7 +56,7 @@ module _ {G T : Type 0} (m : Model G T) where
         → along m (take (d + 1) ts) (map (within S) (take (d + 1) (set path′ d p))) ≡ along m (take d ts) (map (within S) (take d path)) ++ followedBy m (getD ts d x) w
     along-on w is =
         let front : length (take d ts) ≡ length (map (within S) (take d path)) =
-            length-take-le d ts (omega arith) ∙ sym (length-map (take d path) (within S) ∙ ap length (sym kept) ∙ length-take-le d path′ (omega arith)) in
+        length-take-le d ts (omega arith) ∙ sym (length-map (take d path) (within S) ∙ ap length (sym kept) ∙ length-take-le d path′ (omega arith)) in
         ap (λ l. along m l (map (within S) (take (d + 1) (set path′ d p)))) (take-more ts d x inside)
         ∙ ap (λ l. along m (take d ts ++ getD ts d x ∷ []) (map (within S) l)) spans-more
         ∙ ap (along m (take d ts ++ getD ts d x ∷ [])) (map-append (within S) (take d path) (p ∷ []) ∙ ap (λ v. map (within S) (take d path) ++ v ∷ []) is)

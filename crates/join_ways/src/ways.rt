@@ -90,7 +90,15 @@ pub fn add_ways<A: Alphabet>(
     ensures keeps { λ _. ⌜ take depth (now (path .exit)) ≡ take depth (now (path .entry)) ⌝ }
 {
     if depth >= course.terms.len() {
-        return add_rule(course, &path[0..depth], state, guard, rules, outputs, counts);
+        return add_rule(
+            course,
+            &path[0..depth],
+            state,
+            guard,
+            rules,
+            outputs,
+            counts,
+        );
     }
     let second = course.second;
     let term = course.terms[depth];

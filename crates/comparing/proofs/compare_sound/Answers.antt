@@ -28,9 +28,9 @@ returns g c =
     let t = text (now (c .entries .result)) (c .in-Some .step) in
     let whole : length after ≡ c .in-Continue-text .text .len = c .write-text .kept .witness ∙ c .as-mut-slice-3 .ensures .len in
     let is =
-      c .truncate .ensures .items
-      ∙ ap (take n) (take-at after (drop (length after) (c .in-Continue-text .text .items)) (c .in-Continue-text .text .len) whole)
-      ∙ ap (take n) (c .write-text .ensures .witness)
-      ∙ cut-is t w n (c .in-Some-write-text .ensures tt .answer)
-      ∙ ap (λ l. text l (c .in-Some .step)) (c .entries .ensures) in
+    c .truncate .ensures .items
+    ∙ ap (take n) (take-at after (drop (length after) (c .in-Continue-text .text .items)) (c .in-Continue-text .text .len) whole)
+    ∙ ap (take n) (c .write-text .ensures .witness)
+    ∙ cut-is t w n (c .in-Some-write-text .ensures tt .answer)
+    ∙ ap (λ l. text l (c .in-Some .step)) (c .entries .ensures) in
     subst (λ (l : List ℕ). Decided m F H (Some l)) (sym is) told

@@ -92,6 +92,6 @@ returns g c =
     let after : Z ≡ drop (d .outputs) (take total O₂) ++ take (d .outputs) (take total O₂) = c .rotate-left .ensures .after ∙ ap (λ i. drop (d .outputs) (take i O₂) ++ take (d .outputs) (take i O₂)) zero in
     record {
       fills = subst (λ i. Written (tableFrom m fs ls) top (record { states = n; rules = d .rules; outputs = total }) S S₁ R R₁ O (putMid 0 i O₂ Z)) (sym zero)
-        (all-written m fs ls top R O d R₁ O₁ (ex .2) n total S S₁ O₂ Z (omega (arith, size, ap length (ex .0), ex .1)) count (fin .0) (fin .1) (fin .2) (fin .3) after);
+          (all-written m fs ls top R O d R₁ O₁ (ex .2) n total S S₁ O₂ Z (omega (arith, size, ap length (ex .0), ex .1)) count (fin .0) (fin .1) (fin .2) (fin .3) after);
       composes = joins;
     }

@@ -71,6 +71,6 @@ returns g c =
     let low : room (c .push .last .self) ≡ min (min (length S) (length (c .args .pairs .now))) 64 = omega (arith, e .room, top, c .least .ensures, c .least-most .ensures) in
     record {
       joins = answers-from-fills (joined m F H) (length (c .args .pairs .now)) S R O (room (c .push .last .self)) k l low (omega (arith, c .least-most-rules .ensures)) (omega (arith, c .least-most-outputs .ensures))
-        (c .fill .last .states) (c .fill .last .rules) (c .fill .last .outputs) (c .fill .result) (c .fill .ensures .fills);
+          (c .fill .last .states) (c .fill .last .rules) (c .fill .last .outputs) (c .fill .result) (c .fill .ensures .fills);
       composes = c .fill .ensures .composes;
     }

@@ -54,7 +54,7 @@ returns-in-rest-walk g c =
     let M = machineOf m (tableOf (c .args .second .now)) in
     record {
       ran = run-stuck m (c .args .terms .now) (c .loop-term .term-index) (c .term-item .result) (c .loop-term-test .taken) (c .term-item .is) M (c .args .start) (c .loop-term .state) (take (c .loop-term .count) (c .loop-term .out)) (c .in-Some .symbol)
-        (sym (c .value .ensures) ∙ c .in-Some .is) (c .loop-term .inv .0) (walk-stuck M (c .loop-term .state) (c .in-Some .symbol) (c .in-rest-walk .field-0) (c .in-rest-walk .ensures tt .answer));
+          (sym (c .value .ensures) ∙ c .in-Some .is) (c .loop-term .inv .0) (walk-stuck M (c .loop-term .state) (c .in-Some .symbol) (c .in-rest-walk .field-0) (c .in-rest-walk .ensures tt .answer));
     }
 
 pub add-count : need.add-count
@@ -63,7 +63,7 @@ add-count g c =
     let I = c .loop-term .inv in
     let M = machineOf m (tableOf (c .args .second .now)) in
     let few = short-of M (c .loop-term .state) (c .in-Some .symbol) (c .in-Ok .next) (c .in-Ok .written) (step-short m (tableOf (c .args .second .now)) (c .pre .second) (c .loop-term .state) (c .in-Some .symbol))
-      (walk-steps M (c .loop-term .state) (c .in-Some .symbol) (c .in-Ok .next) (c .in-Ok .written) (c .in-Ok .ensures tt .answer)) in
+    (walk-steps M (c .loop-term .state) (c .in-Some .symbol) (c .in-Ok .next) (c .in-Ok .written) (c .in-Ok .ensures tt .answer)) in
     let low : c .loop-term .count + c .in-Ok .written < 4096 = omega (arith, I .1, c .pre .few, c .loop-term-test .taken) in
     search needs
 
@@ -76,9 +76,11 @@ loop-term-again g c =
     let stepped = walk-steps M (c .loop-term .state) s (c .in-Ok .next) (c .in-Ok .written) (c .in-Ok .ensures tt .answer) in
     let few = short-of M (c .loop-term .state) s (c .in-Ok .next) (c .in-Ok .written) (step-short m (tableOf (c .args .second .now)) (c .pre .second) (c .loop-term .state) s) stepped in
     let room : c .loop-term .count + c .in-Ok .written ≤ length (c .loop-term .out) = omega (arith, I .1, I .2, c .pre .few, c .pre .room, c .loop-term-test .taken) in
-    let e = values-upto m (c .args .terms .now) (c .loop-term .term-index) (c .term-item .result) (c .loop-term-test .taken) (c .term-item .is) (Some s) (sym (c .value .ensures) ∙ c .in-Some .is) in
-    (ran-on M (c .args .start) (c .loop-term .state) s (c .in-Ok .next) (c .in-Ok .written) (c .loop-term .count) (valuesOf m (take (c .loop-term .term-index) (c .args .terms .now)) 0) _ (c .loop-term .out) (c .walk .last .out) e (I .0) room (c .walk .ensures .output) stepped,
-     omega (arith, I .1), same-len-mid (c .loop-term .count) (length (c .loop-term .out) - c .loop-term .count) (c .loop-term .out) (c .walk .last .out) (c .walk .kept .out) ∙ I .2)
+    let e = values-upto m (c .args .terms .now) (c .loop-term .term-index) (c .term-item .result) (c .loop-term-test .taken) (c .term-item .is) (Some s) (sym (c .value .ensures) ∙ c .in-Some .is) in (
+      ran-on M (c .args .start) (c .loop-term .state) s (c .in-Ok .next) (c .in-Ok .written) (c .loop-term .count) (valuesOf m (take (c .loop-term .term-index) (c .args .terms .now)) 0) _ (c .loop-term .out) (c .walk .last .out) e (I .0) room (c .walk .ensures .output) stepped,
+      omega (arith, I .1),
+      same-len-mid (c .loop-term .count) (length (c .loop-term .out) - c .loop-term .count) (c .loop-term .out) (c .walk .last .out) (c .walk .kept .out) ∙ I .2,
+    )
 
 pub returns : need.returns
 returns g c =

@@ -73,7 +73,7 @@ returns-in-Break-so-far g c =
     let e = err-from-errBy (c .from-residual .result) (c .from-residual .ensures .1) in
     record {
       takes = rw (e .1) (walking-refused _ _ _ _ _ _ _ _ _ _ _ _ _ _ _ _ (I .0) r (c .loop-rule-test .taken) (c .rule-item .is) (take ((start + r .outputs) - start) (drop start O)) (ap (λ n. take n (drop start O)) size) here
-        (λ low. over (omega (arith, low, I .1))));
+          (λ low. over (omega (arith, low, I .1))));
       taken = c .add-line .ensures .taken ∙ I .2;
       room = c .add-line .ensures .room ∙ I .1;
     }
@@ -88,10 +88,12 @@ loop-rule-again g c = elim (c .if-rule-pair .came) [
       let size : (start + r .outputs) - start ≡ r .outputs = omega arith in
       let here : eqb (r .state) (c .args .pair .0) ≡ true = grind (arith, tells) in
       let t = w .in-Continue-so-far .ensures tt .takes in
-      rw (w .queue-is, w .rules-is, w .outputs-is, w .so-far-is)
-      (walking-on _ _ _ _ _ _ _ _ _ _ _ _ _ _ _ _ (I .0) r (c .loop-rule-test .taken) (c .rule-item .is) (take ((start + r .outputs) - start) (drop start O)) (ap (λ n. take n (drop start O)) size) here
-         _ _ _ _ (t .0, omega (arith, t .1, I .1), t .2),
-       w .add-line .ensures .room ∙ I .1, w .add-line .ensures .taken ∙ I .2)
+      rw (w .queue-is, w .rules-is, w .outputs-is, w .so-far-is) (
+        walking-on _ _ _ _ _ _ _ _ _ _ _ _ _ _ _ _ (I .0) r (c .loop-rule-test .taken) (c .rule-item .is) (take ((start + r .outputs) - start) (drop start O)) (ap (λ n. take n (drop start O)) size) here
+            _ _ _ _ (t .0, omega (arith, t .1, I .1), t .2),
+        w .add-line .ensures .room ∙ I .1,
+        w .add-line .ensures .taken ∙ I .2,
+      )
   | else-rule-pair w ↦
       let I = c .loop-rule .inv in
       let other : eqb (c .rule-item .result .state) (c .args .pair .0) ≡ false = grind (arith, tells) in

@@ -7,5 +7,5 @@ use Rattle.join_rules.proofs.add_pair.Given as given
 abbrev pub Inv-loop-rule : given.InvT-loop-rule
 Inv-loop-rule g l =
     Walking (g .A·Alphabet .model) (tableOf (l .first)) (tableOf (l .second)) (l .pair) (l .number) (room (l .entry .queue)) (entries (l .entry .queue)) (l .entry .so-far) (l .entry .rules) (l .entry .outputs)
-      (l .rule-index) (l .start) (l .so-far) (entries (l .queue)) (l .rules) (l .outputs)
+    (l .rule-index) (l .start) (l .so-far) (entries (l .queue)) (l .rules) (l .outputs)
     × (room (l .queue) ≡ room (l .entry .queue)) × (l .queue .taken ≡ l .entry .queue .taken)

@@ -63,7 +63,7 @@ returns-in-Break-counts g c =
     let over₂ = subst (λ i. length (metAll P (targets ws)) ≤ room (c .next .last .self) → Fits (c .loop-number .counts) (map (numbered (metAll P (targets ws)) i) ws) (c .loop-number .rules) (c .loop-number .outputs) → ⊥) (n .0) over₁ in
     record {
       explores = rw (r .1) (exploring-refused m (g .A·Alphabet .laws) F H (c .pre .first) (c .pre .second) (room (c .args .queue .now)) (c .args .rules .now) (c .args .outputs .now) k P (c .loop-number .counts) (c .loop-number .rules) (c .loop-number .outputs) (I .0) (c .in-Some .pair) h is
-        (λ low. over₂ (omega (arith, low, e .room, I .1))));
+          (λ low. over₂ (omega (arith, low, e .room, I .1))));
       room = c .add-pair .ensures .room ∙ e .room ∙ I .1;
     }
 
@@ -86,11 +86,12 @@ loop-number-again g c =
     let R₂ = c .add-pair .last .rules in
     let O₂ = c .add-pair .last .outputs in
     let took : Took (c .in-Some .number) ws P (room (c .args .queue .now)) (c .loop-number .counts) d (c .loop-number .rules) (c .loop-number .outputs) P₂ R₂ O₂ =
-        (t .0 ∙ ap (λ l. metAll l (targets ws)) (e .entries), omega (arith, t .1, e .room, I .1), t .2) in
+    (t .0 ∙ ap (λ l. metAll l (targets ws)) (e .entries), omega (arith, t .1, e .room, I .1), t .2) in
     let next = exploring-next m (g .A·Alphabet .laws) F H (c .pre .first) (c .pre .second) (room (c .args .queue .now)) (c .args .rules .now) (c .args .outputs .now) k P (c .loop-number .counts) (c .loop-number .rules) (c .loop-number .outputs) (I .0) (c .in-Some .pair) h is d P₂ R₂ O₂
-        (subst (λ i. Took i ws P (room (c .args .queue .now)) (c .loop-number .counts) d (c .loop-number .rules) (c .loop-number .outputs) P₂ R₂ O₂) (n .0) took) in
-    (subst (λ i. Exploring m F H (room (c .args .queue .now)) (c .args .rules .now) (c .args .outputs .now) i P₂ d R₂ O₂) (sym (c .add-pair .ensures .taken ∙ e .taken)) next,
-     c .add-pair .ensures .room ∙ e .room ∙ I .1)
+    (subst (λ i. Took i ws P (room (c .args .queue .now)) (c .loop-number .counts) d (c .loop-number .rules) (c .loop-number .outputs) P₂ R₂ O₂) (n .0) took) in (
+      subst (λ i. Exploring m F H (room (c .args .queue .now)) (c .args .rules .now) (c .args .outputs .now) i P₂ d R₂ O₂) (sym (c .add-pair .ensures .taken ∙ e .taken)) next,
+      c .add-pair .ensures .room ∙ e .room ∙ I .1,
+    )
 
 pub returns : need.returns
 returns g c =

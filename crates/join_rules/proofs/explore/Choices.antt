@@ -8,7 +8,7 @@ use Rattle.join_rules.proofs.explore.Given as given
 abbrev pub Inv-loop-number : given.InvT-loop-number
 Inv-loop-number g l =
     Exploring (g .A·Alphabet .model) (tableOf (l .first)) (tableOf (l .second)) (room (l .entry .queue)) (l .entry .rules) (l .entry .outputs)
-      (l .queue .taken) (entries (l .queue)) (l .counts) (l .rules) (l .outputs)
+    (l .queue .taken) (entries (l .queue)) (l .counts) (l .rules) (l .outputs)
     × (room (l .queue) ≡ room (l .entry .queue))
 
 abbrev pub μ-loop-number : given.MeasureT-loop-number

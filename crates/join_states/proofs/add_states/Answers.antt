@@ -37,7 +37,7 @@ loop-number-again g c =
     let is = sym (getD-map f ps i (0, 0) None (c .loop-number-test .taken)) in
     let r = c .in-Continue-state .ensures tt in
     rw (r .0) (ending-more m (c .args .at) (map f ps) (c .args .states .now) (c .args .outputs .now) i (c .loop-number .place) (c .loop-number .states) (c .loop-number .outputs) (c .loop-number .inv) (f x) h is
-      (omega (arith, length-map ps f, c .pre .states)) (c .in-Continue-state .end) (c .add-state .last .outputs) (r .1) (r .2) (r .3))
+    (omega (arith, length-map ps f, c .pre .states)) (c .in-Continue-state .end) (c .add-state .last .outputs) (r .1) (r .2) (r .3))
 
 pub returns : need.returns
 returns g c =

@@ -36,8 +36,8 @@ returns-then-depth-course g t c =
     let whole : d - 0 ≡ d = omega arith in
     record {
       adds = subst (λ ls. Adds (c .args .counts) ls (c .args .rules .now) (c .add-rule .last .rules) (c .args .outputs .now) (c .add-rule .last .outputs) (c .add-rule .result))
-        (sym (ways-done m (linesOf F) (c .args .course .now .number) ts ws d (c .args .state) (c .args .guard) (c .if-depth-course .taken)))
-        (subst (λ n. Adds (c .args .counts) (wholeLine (c .args .course .now .number) (along m ts (map (within (F .outputs)) (take n (c .args .path .now)))) (c .args .state) (c .args .guard) ∷ []) (c .args .rules .now) (c .add-rule .last .rules) (c .args .outputs .now) (c .add-rule .last .outputs) (c .add-rule .result)) whole (c .add-rule .ensures));
+          (sym (ways-done m (linesOf F) (c .args .course .now .number) ts ws d (c .args .state) (c .args .guard) (c .if-depth-course .taken)))
+          (subst (λ n. Adds (c .args .counts) (wholeLine (c .args .course .now .number) (along m ts (map (within (F .outputs)) (take n (c .args .path .now)))) (c .args .state) (c .args .guard) ∷ []) (c .args .rules .now) (c .add-rule .last .rules) (c .args .outputs .now) (c .add-rule .last .outputs) (c .add-rule .result)) whole (c .add-rule .ensures));
       keeps = refl;
     }
 
@@ -83,10 +83,41 @@ add-ways-requires g t c κs inside =
     let st = all-getD (SoundTerm m) ts (c .args .depth) x (c .if-depth-course .left) (c .pre .terms) in
     let sl = c .pre .second .guard (c .loop-rule .rule-index) r (nth-read (c .args .course .now .second .now .rules .now) _ (c .loop-rule .rule-index) r refl (c .loop-rule-test .taken) (c .rule-item .is)) in
     let spans = spans-sound m S ts (c .args .path .now) (c .loop-rule .path) (c .args .depth) (record { from = start; to = start + r .outputs }) x 0 (c .if-depth-course .left) (omega arith) (I .kept)
-      (c .pre .spans) (span-sound _ _ _ _ _ _ _ _ _ _ _ _ _ _ _ _ _ _ _ I r (c .loop-rule-test .taken) (c .rule-item .is)) in
-    let guard = g .A·Alphabet .laws .narrowed-sound (c .args .guard) (r .guard) h (getD ts (c .args .depth) x) (c .pre .guard) st sl (sym (c .narrowed .ensures) ∙ c .in-Some .is) in
-    (omega arith, (inside .0, (inside .1 .0, (inside .1 .1, (c .pre .second, (c .pre .first, (c .pre .terms, (omega arith, (simp length-set (omega arith), (spans, (guard,
-      (omega (arith, I .added .rule-count, I .added .fits .rules-fit), omega (arith, I .added .output-count, I .added .fits .outputs-fit)))))))))))))
+    (c .pre .spans) (span-sound _ _ _ _ _ _ _ _ _ _ _ _ _ _ _ _ _ _ _ I r (c .loop-rule-test .taken) (c .rule-item .is)) in
+    let guard = g .A·Alphabet .laws .narrowed-sound (c .args .guard) (r .guard) h (getD ts (c .args .depth) x) (c .pre .guard) st sl (sym (c .narrowed .ensures) ∙ c .in-Some .is) in (
+      omega arith,
+      (
+        inside .0,
+        (
+          inside .1 .0,
+          (
+            inside .1 .1,
+            (
+              c .pre .second,
+              (
+                c .pre .first,
+                (
+                  c .pre .terms,
+                  (
+                    omega arith,
+                    (
+                      simp length-set (omega arith),
+                      (
+                        spans,
+                        (
+                          guard,
+                          (omega (arith, I .added .rule-count, I .added .fits .rules-fit), omega (arith, I .added .output-count, I .added .fits .outputs-fit)),
+                        ),
+                      ),
+                    ),
+                  ),
+                ),
+              ),
+            ),
+          ),
+        ),
+      ),
+    )
 
 pub returns-in-Break-so-far : need.returns-in-Break-so-far
 returns-in-Break-so-far g t c =
@@ -109,7 +140,7 @@ returns-in-Break-so-far g t c =
     let e = drop-more ts d x (c .if-depth-course .left) in
     record {
       adds = rw (p .1) (subst (λ l. Fits (c .args .counts) (map (rawLine k (along m (take d ts) (map (within (F .outputs)) (take d (c .args .path .now))))) (ways m (linesOf F) l (c .args .state) (c .args .guard))) (c .args .rules .now) (c .args .outputs .now) → ⊥) (sym e)
-        (going-refused _ _ _ _ _ _ _ _ _ _ _ _ _ _ _ _ _ _ _ I r (c .loop-rule-test .taken) (c .rule-item .is) W
+          (going-refused _ _ _ _ _ _ _ _ _ _ _ _ _ _ _ _ _ _ _ I r (c .loop-rule-test .taken) (c .rule-item .is) W
           (by-some m _ _ _ _ _ _ (c .in-Some .narrower) here (sym (c .narrowed .ensures) ∙ c .in-Some .is))
           (subst (λ o. Fits (c .loop-rule .so-far) (map (rawLine k o) W) (c .loop-rule .rules) (c .loop-rule .outputs) → ⊥) acc over)));
       keeps = path-kept m (F .outputs) ts (c .args .path .now) (c .loop-rule .path) d span x 0 (c .if-depth-course .left) (omega arith) (I .kept) (c .add-ways .last .path) (c .in-Break-so-far .ensures tt .keeps);
@@ -135,14 +166,14 @@ loop-rule-again g t c = elim (c .if-rule-state .came) [
       let added = w .in-Continue-so-far .ensures tt .adds in
       rw (w .path-is, w .rules-is, w .outputs-is, w .so-far-is)
       (going-on _ _ _ _ _ _ _ _ _ _ _ _ _ _ _ _ _ _ _ I r (c .loop-rule-test .taken) (c .rule-item .is) W
-        (by-some m _ _ _ _ _ _ (w .in-Some .narrower) here (sym (w .narrowed .ensures) ∙ w .in-Some .is)) _ _ _ _
-        (subst (λ o. Added (c .loop-rule .so-far) (w .in-Continue-so-far .so-far) (map (rawLine k o) W) (c .loop-rule .rules) (w .add-ways .last .rules) (c .loop-rule .outputs) (w .add-ways .last .outputs)) acc added)
-        (path-kept m (F .outputs) ts (c .args .path .now) (c .loop-rule .path) d span x 0 (c .if-depth-course .left) (omega arith) (I .kept) (w .add-ways .last .path) (w .in-Continue-so-far .ensures tt .keeps)))
+      (by-some m _ _ _ _ _ _ (w .in-Some .narrower) here (sym (w .narrowed .ensures) ∙ w .in-Some .is)) _ _ _ _
+      (subst (λ o. Added (c .loop-rule .so-far) (w .in-Continue-so-far .so-far) (map (rawLine k o) W) (c .loop-rule .rules) (w .add-ways .last .rules) (c .loop-rule .outputs) (w .add-ways .last .outputs)) acc added)
+      (path-kept m (F .outputs) ts (c .args .path .now) (c .loop-rule .path) d span x 0 (c .if-depth-course .left) (omega arith) (I .kept) (w .add-ways .last .path) (w .in-Continue-so-far .ensures tt .keeps)))
   | else-rule-state w ↦
       let other : eqb (c .rule-item .result .state) (c .args .state) ≡ false = grind (arith, tells) in
       rw (w .path-is, w .rules-is, w .outputs-is, w .so-far-is)
       (going-skip _ _ _ _ _ _ _ _ _ _ _ _ _ _ _ _ _ _ _ (c .loop-rule .inv) (c .rule-item .result) (c .loop-rule-test .taken) (c .rule-item .is)
-        (by-other (g .A·Alphabet .model) _ _ _ _ _ _ other))
+      (by-other (g .A·Alphabet .model) _ _ _ _ _ _ other))
 ]
 
 pub returns : need.returns
@@ -155,6 +186,6 @@ returns g t c =
     let e = drop-more ts d (c .index-course-depth .result) (c .if-depth-course .left) in
     record {
       adds = subst (λ l. Added (c .args .counts) (c .loop-rule .so-far) (map (rawLine (c .args .course .now .number) (along m (take d ts) (map (within (F .outputs)) (take d (c .args .path .now))))) (ways m (linesOf F) l (c .args .state) (c .args .guard))) (c .args .rules .now) (c .loop-rule .rules) (c .args .outputs .now) (c .loop-rule .outputs))
-        (sym e) (going-end _ _ _ _ _ _ _ _ _ _ _ _ _ _ _ _ _ _ _ I (c .loop-rule-test .left));
+          (sym e) (going-end _ _ _ _ _ _ _ _ _ _ _ _ _ _ _ _ _ _ _ I (c .loop-rule-test .left));
       keeps = I .kept;
     }

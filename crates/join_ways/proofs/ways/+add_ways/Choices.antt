@@ -16,4 +16,4 @@ Inv-loop-rule g l =
     let ts = l .course .terms .now in
     let acc = along m (take (l .depth) ts) (map (within (F .outputs)) (take (l .depth) (l .entry .path))) in
     Going m F (l .course .number) acc (drop (l .depth + 1) ts) (l .term) (l .state) (l .guard) (l .entry .so-far) (l .entry .rules) (l .entry .outputs) (l .depth) (l .entry .path)
-      (l .rule-index) (l .start) (l .so-far) (l .rules) (l .outputs) (l .path)
+    (l .rule-index) (l .start) (l .so-far) (l .rules) (l .outputs) (l .path)

@@ -24,4 +24,4 @@ returns g c =
     let count : c .in-Continue-to .to - c .args .counts .outputs ≡ length (l .outputs) = omega (arith, wrote .0) in
     rw count
     (one-added (c .args .counts) l (c .args .rules .now) (c .args .outputs .now) (c .write-along .last .outputs) (c .in-Continue-to .to)
-      (record { ends = wrote .0; room = wrote .1; is = wrote .2 }) (omega (arith, wrote .0)) (c .if-counts-rules .left))
+    (record { ends = wrote .0; room = wrote .1; is = wrote .2 }) (omega (arith, wrote .0)) (c .if-counts-rules .left))

@@ -88,7 +88,7 @@ loop-depth-again g c =
     let e = along-more m ts ws d t w long (c .loop-depth-test .taken) (c .index-terms-depth .is) (getD-map (within (c .args .second .now)) (c .args .path .now) d (record { from = 0; to = 0 }) w h) in
     let wrote = c .in-Continue-place .ensures tt in
     let piece : Mid (c .loop-depth .place) (c .in-Continue-place .place) (followedBy m t w) (c .loop-depth .outputs) (c .write-followed .last .outputs) =
-        record { ends = wrote .0; room = wrote .1; is = wrote .2 } in
+    record { ends = wrote .0; room = wrote .1; is = wrote .2 } in
     mid-same _ _ _ _ _ _ (sym e) (mid-more _ _ _ _ _ _ _ _ (c .loop-depth .inv) piece)
 
 pub returns : need.returns
