@@ -19,7 +19,12 @@ pub struct Room {
     pub pairs: usize,
 }
 
-pub const ENOUGH: Room = Room { states: 64, rules: 1024, outputs: 4096, pairs: 64 };
+pub const ENOUGH: Room = Room {
+    states: 64,
+    rules: 1024,
+    outputs: 4096,
+    pairs: 64,
+};
 
 // Why there is no join.
 #[derive(Clone, Copy)]
@@ -80,7 +85,11 @@ fn join_sound<'x, A: Alphabet>(
     states.truncate(sizes.states);
     rules.truncate(sizes.rules);
     outputs.truncate(sizes.outputs);
-    Ok(Joined { states, rules, outputs })
+    Ok(Joined {
+        states,
+        rules,
+        outputs,
+    })
 }
 
 // The same for any two filters.

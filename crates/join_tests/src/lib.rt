@@ -2,6 +2,8 @@
 #[cfg(test)]
 mod joined;
 #[cfg(test)]
+mod limits;
+#[cfg(test)]
 mod samples;
 #[cfg(test)]
 mod tests;

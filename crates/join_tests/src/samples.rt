@@ -17,39 +17,84 @@ static REJECTING: [State; 1] = [State { mark: 0, finals: 0 }];
 
 static CLOSING: [State; 1] = [State { mark: 1, finals: 1 }];
 
-static ALL_DROPPED: [Rule<Range>; 1] =
-    [Rule { state: 0, next: 0, outputs: 0, guard: Range { low: 0, high: 0xff } }];
+static ALL_DROPPED: [Rule<Range>; 1] = [Rule {
+    state: 0,
+    next: 0,
+    outputs: 0,
+    guard: Range { low: 0, high: 0xff },
+}];
 
-static ALL_COPIED: [Rule<Range>; 1] =
-    [Rule { state: 0, next: 0, outputs: 1, guard: Range { low: 0, high: 0xff } }];
+static ALL_COPIED: [Rule<Range>; 1] = [Rule {
+    state: 0,
+    next: 0,
+    outputs: 1,
+    guard: Range { low: 0, high: 0xff },
+}];
 
-static DIGITS_ONLY: [Rule<Range>; 1] =
-    [Rule { state: 0, next: 0, outputs: 1, guard: Range { low: 0x30, high: 0x39 } }];
+static DIGITS_ONLY: [Rule<Range>; 1] = [Rule {
+    state: 0,
+    next: 0,
+    outputs: 1,
+    guard: Range {
+        low: 0x30,
+        high: 0x39,
+    },
+}];
 
-static PAIRED: [Rule<Range>; 1] =
-    [Rule { state: 0, next: 0, outputs: 2, guard: Range { low: 0x30, high: 0x41 } }];
+static PAIRED: [Rule<Range>; 1] = [Rule {
+    state: 0,
+    next: 0,
+    outputs: 2,
+    guard: Range {
+        low: 0x30,
+        high: 0x41,
+    },
+}];
 
 static COPY_TWICE: [RangeTerm; 2] = [RangeTerm::Shift(0), RangeTerm::Shift(0)];
 
 static CLOSE_AMPERSAND: [RangeTerm; 2] = [RangeTerm::Constant(0x26), RangeTerm::Shift(0)];
 
-static ALL_MARKS: [Rule<MarkSet>; 1] =
-    [Rule { state: 0, next: 0, outputs: 1, guard: MarkSet { bits: 0x1f_ffff_ffff } }];
+static ALL_MARKS: [Rule<MarkSet>; 1] = [Rule {
+    state: 0,
+    next: 0,
+    outputs: 1,
+    guard: MarkSet {
+        bits: 0x1f_ffff_ffff,
+    },
+}];
 
-static THERE: [MarkTerm; 1] = [MarkTerm::Turn { factor: 2, offset: 1 }];
+static THERE: [MarkTerm; 1] = [MarkTerm::Turn {
+    factor: 2,
+    offset: 1,
+}];
 
-static BACK: [MarkTerm; 1] = [MarkTerm::Turn { factor: 19, offset: 18 }];
+static BACK: [MarkTerm; 1] = [MarkTerm::Turn {
+    factor: 19,
+    offset: 18,
+}];
 
-static SAME: [MarkTerm; 1] = [MarkTerm::Turn { factor: 1, offset: 0 }];
+static SAME: [MarkTerm; 1] = [MarkTerm::Turn {
+    factor: 1,
+    offset: 0,
+}];
 
 // A rule and a term to fill lists with.
-pub const BYTE_RULE: Rule<Range> =
-    Rule { state: 0, next: 0, outputs: 0, guard: Range { low: 0, high: 0 } };
+pub const BYTE_RULE: Rule<Range> = Rule {
+    state: 0,
+    next: 0,
+    outputs: 0,
+    guard: Range { low: 0, high: 0 },
+};
 
 pub const BYTE_TERM: RangeTerm = RangeTerm::Shift(0);
 
-pub const MARK_RULE: Rule<MarkSet> =
-    Rule { state: 0, next: 0, outputs: 0, guard: MarkSet { bits: 1 } };
+pub const MARK_RULE: Rule<MarkSet> = Rule {
+    state: 0,
+    next: 0,
+    outputs: 0,
+    guard: MarkSet { bits: 1 },
+};
 
 pub const MARK_TERM: MarkTerm = MarkTerm::Constant(0);
 
@@ -58,7 +103,11 @@ fn bytes(
     rules: &'static [Rule<Range>],
     outputs: &'static [RangeTerm],
 ) -> Draft<'static, Bytes> {
-    Draft { states, rules, outputs }
+    Draft {
+        states,
+        rules,
+        outputs,
+    }
 }
 
 pub fn drop_all() -> Draft<'static, Bytes> {
@@ -82,13 +131,25 @@ pub fn write_twice() -> Draft<'static, Bytes> {
 }
 
 pub fn turn_there() -> Draft<'static, Marks> {
-    Draft { states: &ACCEPTING, rules: &ALL_MARKS, outputs: &THERE }
+    Draft {
+        states: &ACCEPTING,
+        rules: &ALL_MARKS,
+        outputs: &THERE,
+    }
 }
 
 pub fn turn_back() -> Draft<'static, Marks> {
-    Draft { states: &ACCEPTING, rules: &ALL_MARKS, outputs: &BACK }
+    Draft {
+        states: &ACCEPTING,
+        rules: &ALL_MARKS,
+        outputs: &BACK,
+    }
 }
 
 pub fn copy_marks() -> Draft<'static, Marks> {
-    Draft { states: &ACCEPTING, rules: &ALL_MARKS, outputs: &SAME }
+    Draft {
+        states: &ACCEPTING,
+        rules: &ALL_MARKS,
+        outputs: &SAME,
+    }
 }

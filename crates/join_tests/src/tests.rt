@@ -1,9 +1,9 @@
 // What joins do, and when they are refused.
-use crate::joined::join_into;
+use crate::joined::ENOUGH;
 use crate::joined::Joined;
 use crate::joined::NoJoin;
 use crate::joined::Room;
-use crate::joined::ENOUGH;
+use crate::joined::join_into;
 use crate::samples;
 use crate::samples::BYTE_RULE;
 use crate::samples::BYTE_TERM;
@@ -90,7 +90,13 @@ fn escapes_and_letters(rt: LibcRuntime) -> Result<(), Fail> {
     check(join_writes(heap, &escape(), &escape(), &[0x26], &twice))?;
     check(!joins_to(heap, &escape(), &escape(), &escape()))?;
     check(joins_to(heap, &lower(), &lower(), &lower()))?;
-    check(join_writes(heap, &lower(), &escape(), &[0x41, 0x26], &[0x61, 0x26, 0x61, 0x6d, 0x70, 0x3b]))
+    check(join_writes(
+        heap,
+        &lower(),
+        &escape(),
+        &[0x41, 0x26],
+        &[0x61, 0x26, 0x61, 0x6d, 0x70, 0x3b],
+    ))
 }
 
 #[test]
@@ -122,9 +128,29 @@ fn ends_of_texts(rt: LibcRuntime) -> Result<(), Fail> {
     check(joins_to(heap, &rejecting, &escape(), &rejecting))?;
     check(joins_to(heap, &escape(), &rejecting, &rejecting))?;
     let closing = samples::copy_and_close();
-    check(join_writes(heap, &closing, &escape(), &[], &[0x26, 0x61, 0x6d, 0x70, 0x3b]))?;
-    check(join_writes(heap, &samples::write_twice(), &samples::copy_digits(), &[0x31], &[0x31, 0x31]))?;
-    check(!join_writes(heap, &samples::write_twice(), &samples::copy_digits(), &[0x41], &[0x41, 0x41]))
+    check(join_writes(
+        heap,
+        &closing,
+        &escape(),
+        &[],
+        &[0x26, 0x61, 0x6d, 0x70, 0x3b],
+    ))?;
+    check(join_writes(
+        heap,
+        &samples::write_twice(),
+        &samples::copy_digits(),
+        &[0x31],
+        &[0x31, 0x31],
+    ))?;
+    check(
+        !join_writes(
+            heap,
+            &samples::write_twice(),
+            &samples::copy_digits(),
+            &[0x41],
+            &[0x41, 0x41],
+        ),
+    )
 }
 
 #[test]
@@ -132,14 +158,58 @@ fn lists_too_short(rt: LibcRuntime) -> Result<(), Fail> {
     let heap = rt.alloc();
     let first = lower();
     let second = escape();
-    let Ok(Joined { states, rules, outputs }) = join_into(heap, &first, &second, ENOUGH, BYTE_RULE, BYTE_TERM) else {
+    let Ok(
+        Joined {
+            states,
+            rules,
+            outputs,
+        },
+    ) = join_into(heap, &first, &second, ENOUGH, BYTE_RULE, BYTE_TERM)
+    else {
         return Err(Fail::new("not joined"));
     };
-    let exact = Room { states: states.len(), rules: rules.len(), outputs: outputs.len(), pairs: states.len() };
+    let exact = Room {
+        states: states.len(),
+        rules: rules.len(),
+        outputs: outputs.len(),
+        pairs: states.len(),
+    };
     check(!too_large(heap, &first, &second, exact))?;
     check(exact.states > 0 && exact.rules > 0 && exact.outputs > 0)?;
-    check(too_large(heap, &first, &second, Room { states: exact.states - 1, ..exact }))?;
-    check(too_large(heap, &first, &second, Room { rules: exact.rules - 1, ..exact }))?;
-    check(too_large(heap, &first, &second, Room { outputs: exact.outputs - 1, ..exact }))?;
-    check(too_large(heap, &first, &second, Room { pairs: exact.pairs - 1, ..exact }))
+    check(too_large(
+        heap,
+        &first,
+        &second,
+        Room {
+            states: exact.states - 1,
+            ..exact
+        },
+    ))?;
+    check(too_large(
+        heap,
+        &first,
+        &second,
+        Room {
+            rules: exact.rules - 1,
+            ..exact
+        },
+    ))?;
+    check(too_large(
+        heap,
+        &first,
+        &second,
+        Room {
+            outputs: exact.outputs - 1,
+            ..exact
+        },
+    ))?;
+    check(too_large(
+        heap,
+        &first,
+        &second,
+        Room {
+            pairs: exact.pairs - 1,
+            ..exact
+        },
+    ))
 }
