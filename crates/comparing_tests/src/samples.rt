@@ -151,6 +151,50 @@ static ONCE: [Rule<Range>; 3] = [
     },
 ];
 
+static LOOP_ONCE: [Rule<Range>; 2] = [
+    Rule {
+        state: 0,
+        next: 0,
+        outputs: 1,
+        guard: Range {
+            low: 0x61,
+            high: 0x61,
+        },
+    },
+    Rule {
+        state: 0,
+        next: 1,
+        outputs: 0,
+        guard: Range {
+            low: 0x62,
+            high: 0x62,
+        },
+    },
+];
+
+static LOOP_TWICE: [Rule<Range>; 2] = [
+    Rule {
+        state: 0,
+        next: 0,
+        outputs: 2,
+        guard: Range {
+            low: 0x61,
+            high: 0x61,
+        },
+    },
+    Rule {
+        state: 0,
+        next: 1,
+        outputs: 0,
+        guard: Range {
+            low: 0x62,
+            high: 0x62,
+        },
+    },
+];
+
+static THEN_ACCEPTS: [State; 2] = [State { mark: 0, finals: 0 }, State { mark: 1, finals: 0 }];
+
 static AROUND: [Rule<Range>; 2] = [
     Rule {
         state: 0,
@@ -268,6 +312,16 @@ pub fn crosses_twice() -> Draft<'static, Bytes> {
 
 pub fn crosses_once() -> Draft<'static, Bytes> {
     bytes(&LAST_ACCEPTS, &ONCE, &CROSSES[0..2])
+}
+
+// One symbol for each a, and accepted behind a b.
+pub fn grows_by_one() -> Draft<'static, Bytes> {
+    bytes(&THEN_ACCEPTS, &LOOP_ONCE, &CROSSES[0..1])
+}
+
+// Two symbols for each a, so that the lag to the other grows.
+pub fn grows_by_two() -> Draft<'static, Bytes> {
+    bytes(&THEN_ACCEPTS, &LOOP_TWICE, &CROSSES[0..2])
 }
 
 pub fn rejects_all() -> Draft<'static, Bytes> {

@@ -56,6 +56,12 @@ fn delays_and_rejections(rt: LibcRuntime) -> Result<(), Fail> {
     let heap = rt.alloc();
     check(gives(
         heap,
+        &samples::grows_by_one(),
+        &samples::grows_by_two(),
+        Some(&[0x61, 0x62]),
+    ))?;
+    check(gives(
+        heap,
         &samples::copy_letter(),
         &samples::delayed_letter(),
         None,

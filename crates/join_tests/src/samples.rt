@@ -51,6 +51,18 @@ static PAIRED: [Rule<Range>; 1] = [Rule {
     },
 }];
 
+static TWO_CONSTANTS: [RangeTerm; 2] = [RangeTerm::Constant(0x61), RangeTerm::Constant(0x62)];
+
+static LETTER_A: [Rule<Range>; 1] = [Rule {
+    state: 0,
+    next: 0,
+    outputs: 1,
+    guard: Range {
+        low: 0x61,
+        high: 0x61,
+    },
+}];
+
 static COPY_TWICE: [RangeTerm; 2] = [RangeTerm::Shift(0), RangeTerm::Shift(0)];
 
 static CLOSE_AMPERSAND: [RangeTerm; 2] = [RangeTerm::Constant(0x26), RangeTerm::Shift(0)];
@@ -128,6 +140,16 @@ pub fn copy_digits() -> Draft<'static, Bytes> {
 
 pub fn write_twice() -> Draft<'static, Bytes> {
     bytes(&ACCEPTING, &PAIRED, &COPY_TWICE)
+}
+
+// Writes a and then b.
+pub fn write_two() -> Draft<'static, Bytes> {
+    bytes(&ACCEPTING, &PAIRED, &TWO_CONSTANTS)
+}
+
+// Takes a alone.
+pub fn copy_a() -> Draft<'static, Bytes> {
+    bytes(&ACCEPTING, &LETTER_A, &COPY_TWICE[0..1])
 }
 
 pub fn turn_there() -> Draft<'static, Marks> {

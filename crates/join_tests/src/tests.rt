@@ -213,3 +213,75 @@ fn lists_too_short(rt: LibcRuntime) -> Result<(), Fail> {
         },
     ))
 }
+
+// A way that dies at its second output leaves no rule.
+#[test]
+fn ways_that_die(rt: LibcRuntime) -> Result<(), Fail> {
+    let heap = rt.alloc();
+    match join_into(
+        heap,
+        &samples::write_two(),
+        &samples::copy_a(),
+        ENOUGH,
+        BYTE_RULE,
+        BYTE_TERM,
+    ) {
+        Ok(joined) => {
+            check_eq(joined.states.len(), 1)?;
+            check_eq(joined.rules.len(), 0)
+        }
+        Err(_) => Err(Fail::new("not joined")),
+    }
+}
+
+// Whether a filter and then another write for a text what their join writes, or one of them rejects and so does it.
+fn same_as_twice<'x>(
+    heap: Global,
+    first: &'x Draft<'x, Bytes>,
+    second: &'x Draft<'x, Bytes>,
+    joined: &Draft<'_, Bytes>,
+    text: &[u32],
+) -> bool {
+    let Ok((at_once, whole)) = clean(heap, joined, text) else {
+        return false;
+    };
+    let Ok((one, middle)) = clean(heap, first, text) else {
+        return false;
+    };
+    let Ok((other, end)) = clean(heap, second, middle.as_slice()) else {
+        return false;
+    };
+    match (at_once, one, other) {
+        (Outcome::Written { .. }, Outcome::Written { .. }, Outcome::Written { .. }) => {
+            whole.as_slice() == end.as_slice()
+        }
+        (Outcome::Rejected { .. }, Outcome::Rejected { .. }, _) => true,
+        (Outcome::Rejected { .. }, _, Outcome::Rejected { .. }) => true,
+        _ => false,
+    }
+}
+
+// Every text of three symbols, of which each is one of sixteen.
+#[test]
+fn many_texts(rt: LibcRuntime) -> Result<(), Fail> {
+    let heap = rt.alloc();
+    let first = samples::write_twice();
+    let second = samples::copy_and_close();
+    let Ok(joined) = join_into(heap, &first, &second, ENOUGH, BYTE_RULE, BYTE_TERM) else {
+        return Err(Fail::new("not joined"));
+    };
+    let draft: Draft<'_, Bytes> = Draft {
+        states: joined.states.as_slice(),
+        rules: joined.rules.as_slice(),
+        outputs: joined.outputs.as_slice(),
+    };
+    for a in 0..16u32 {
+        for b in 0..16u32 {
+            for c in 0..16u32 {
+                let text = [0x38 + a, 0x32 + b, 0x2e + c];
+                check(same_as_twice(heap, &first, &second, &draft, &text))?;
+            }
+        }
+    }
+    Ok(())
+}
