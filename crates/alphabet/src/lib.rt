@@ -1,4 +1,6 @@
 // Alphabets: what a filter has to know of its symbols, as one trait with one method for each question.
+#![tactic(auto)]
+
 ghost use Rattle.std.specs.Prelude.{◌≡◌, ◌<◌, Ok};
 ghost use Rattle.alphabet.specs.Model.{Model, SoundGuard, SoundTerm};
 ghost use Rattle.alphabet.specs.Questions.{LeastFrom, LeastOutside, suits as fits_all, constant_of, both};

@@ -1,4 +1,6 @@
 // What the calls on a shelf answer: their faults, each with the fault below it whole, and the outcome of a comparison.
+#![tactic(auto)]
+
 pub mod comparison;
 pub mod fault;
 

@@ -1,6 +1,8 @@
 // Classes of symbols: which symbols are worth trying at the states of two filters, in a search for the earliest text
 // that distinguishes them. A run is a row of neighbouring symbols that the same pair of rules holds. What happens at its
 // first two symbols decides what happens at all of it, so that the others need not be tried.
+#![tactic(auto)]
+
 ghost use Rattle.std.specs.Prelude.{◌≡◌, ◌&&◌};
 ghost use Rattle.alphabet.specs.Questions.{LeastFrom};
 ghost use Rattle.table.specs.Table.{table_of};

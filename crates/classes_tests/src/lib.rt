@@ -1,4 +1,6 @@
 // Tests of the symbols that are worth trying at the states of two filters over bytes.
+#![tactic(auto)]
+
 #[cfg(test)]
 mod tests {
     use classes::next_symbol;

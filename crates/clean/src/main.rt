@@ -2,6 +2,8 @@
 //
 // Each line of standard input is a note of bytes. The arguments name the filters to use: escape, lower, ascii, public.
 // With none, every filter is used on every note.
+#![tactic(auto)]
+
 mod script;
 
 use alphabet::Alphabet;

@@ -1,4 +1,6 @@
 // Cleaning one note with one filter: the output is as long as it has to be.
+#![tactic(auto)]
+
 ghost use Rattle.std.specs.Prelude.{◌≡◌};
 ghost use Rattle.table.specs.Table.{table_of};
 ghost use Rattle.cleaning.specs.declared.CleanFault.TheVariants.{Refused, NoMemory};

@@ -1,4 +1,6 @@
 // Reading and writing the records of a stored shelf: one trait for records of fixed width, one for alphabets.
+#![tactic(auto)]
+
 ghost use Rattle.std.specs.Prelude.{◌≡◌, ℕ, true, length};
 ghost use Rattle.alphabet.specs.Model.{SoundGuard, SoundTerm};
 ghost use Rattle.codec_laws.specs.Code.{Code, Exact, Free};

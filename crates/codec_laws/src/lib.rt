@@ -1,4 +1,6 @@
 // Records of a stored shelf as bytes: definitions, and that reading undoes writing and writing reading.
+#![tactic(auto)]
+
 ghost use Rattle.codec_laws.specs.Code.{Exact};
 ghost use Rattle.codec_laws.specs.Entries.{entry_code, state_code, rule_code};
 ghost use Rattle.codec_laws.specs.Ranges.{range_code, range_term_code};

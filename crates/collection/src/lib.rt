@@ -1,5 +1,7 @@
 // The collection on a shelf: what a call that puts a filter there does, and the law that no filter is kept twice.
 // Each function stands for a theorem, which its contract states.
+#![tactic(auto)]
+
 ghost use Rattle.collection.specs.Filing.{OneAnswer};
 ghost use Rattle.collection.specs.Law.{CollectionLaw};
 

@@ -1,5 +1,7 @@
 // Compares large filters over code points, as a run to be timed: two cycles of states, and two tables of 64 states and
 // 1,024 rules of which the second is the first with its states and rules in another order.
+#![tactic(auto)]
+
 use anyhow::anyhow;
 use comparing::{CompareFault, compare_drafts};
 use ranges::{CodePoints, Range, RangeTerm};

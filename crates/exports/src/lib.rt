@@ -1,4 +1,6 @@
 // The library for C and Rust: byte filters handed in as flat lists, and checked, put to work, compared and joined.
+#![tactic(auto)]
+
 pub mod answer;
 pub mod calls;
 pub mod flat;

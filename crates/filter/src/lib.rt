@@ -1,4 +1,6 @@
 // Filters at work: finding rules, walking along a text, and transducing.
+#![tactic(auto)]
+
 pub mod outcome;
 pub mod transducing;
 pub mod walk;

@@ -1,4 +1,6 @@
 // Tests of the table check and of transducing, over bytes.
+#![tactic(auto)]
+
 #[cfg(test)]
 mod faults;
 #[cfg(test)]

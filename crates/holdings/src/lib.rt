@@ -1,4 +1,6 @@
 // Holdings: the filters that a shelf keeps in its caller's memory, where each one stands, and whether all are sound.
+#![tactic(auto)]
+
 pub mod append;
 pub mod fault;
 pub mod memory;

@@ -1,4 +1,6 @@
 // The final output of a pair of states: the first filter's, run through the second to its end.
+#![tactic(auto)]
+
 ghost use Rattle.std.specs.Prelude.{◌≡◌, ◌*◌, ◌<◌, ◌≤◌, length};
 ghost use Rattle.std.specs.List.{AllByRecursion};
 ghost use Rattle.alphabet.specs.Model.{SoundTerm};

@@ -1,5 +1,7 @@
 // The joined filter of two filters: what it is, that it is their composition, and that it stays sound.
 // Each function stands for a theorem, which its contract states.
+#![tactic(auto)]
+
 ghost use Rattle.table.specs.Table.{table_of};
 ghost use Rattle.table.specs.Sound.{Sound};
 ghost use Rattle.join_laws.specs.Theorems.{WaysRun, Joins};

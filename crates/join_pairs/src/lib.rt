@@ -1,4 +1,6 @@
 // Pairs of states: they wait in a queue, and get their numbers as they are first met.
+#![tactic(auto)]
+
 ghost use Rattle.std.specs.Prelude.{◌≡◌, ◌≤◌, length};
 ghost use Rattle.queue.specs.Held.{entries, room};
 ghost use Rattle.join_laws.specs.Pairs.{place};

@@ -1,4 +1,6 @@
 // The rules of the joined filter: pairs of states are taken in the order in which they were met.
+#![tactic(auto)]
+
 ghost use Rattle.std.specs.Prelude.{◌≡◌, ◌<◌, ◌≤◌, [], ◌∷◌, map, length};
 ghost use Rattle.std.specs.List.{AllByRecursion};
 ghost use Rattle.alphabet.specs.Model.{SoundGuard, SoundTerm};

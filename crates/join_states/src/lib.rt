@@ -1,4 +1,6 @@
 // The states of the joined filter, with their final outputs.
+#![tactic(auto)]
+
 ghost use Rattle.std.specs.Prelude.{◌≡◌, ◌<◌, ◌≤◌, map, length};
 ghost use Rattle.std.specs.List.{AllByRecursion};
 ghost use Rattle.table.specs.Table.{table_of};

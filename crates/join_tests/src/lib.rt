@@ -1,4 +1,6 @@
 // Tests of joining, over bytes and marks.
+#![tactic(auto)]
+
 #[cfg(test)]
 mod joined;
 #[cfg(test)]

@@ -1,4 +1,6 @@
 // Ways through the second of two filters, written as rules with their outputs.
+#![tactic(auto)]
+
 pub mod ways;
 pub mod write;
 

@@ -1,4 +1,6 @@
 // Putting the join of two holdings on a shelf, by way of lists of the caller.
+#![tactic(auto)]
+
 ghost use Rattle.std.specs.Prelude.{◌≡◌, ◌<◌, ◌≤◌, length};
 ghost use Rattle.table.specs.Table.{table_of};
 ghost use Rattle.shelf_holdings.specs.Memory.{memory_of, holding};

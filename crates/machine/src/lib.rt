@@ -1,5 +1,7 @@
 // Abstract transducers: the theory that comparing and joining filters rests on.
 // Each function stands for a theorem, which its contract states.
+#![tactic(auto)]
+
 ghost use Rattle.machine.specs.Theorems.{LagsDecide, NothingMissed, PairsCompose, SearchKeeps, ShortlexOrders, SymbolsIdle, TextsCovered, TextsFit};
 
 // Shortlex is a strict total order.

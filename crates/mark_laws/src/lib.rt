@@ -1,4 +1,6 @@
 // Shelf marks: the guards and terms of the 37 marks, what they mean, and that they form an alphabet.
+#![tactic(auto)]
+
 ghost use Rattle.alphabet.specs.Laws.{Lawful};
 ghost use Rattle.mark_laws.specs.Marks.{marks};
 ghost use Rattle.mark_laws.specs.Sets.{Canonical, ConstantNarrows};

@@ -1,4 +1,6 @@
 // Shelf marks: the alphabet whose guards are sets of marks and whose terms count modulo 37.
+#![tactic(auto)]
+
 ghost use Rattle.std.specs.Prelude.{◌≡◌, ◌+◌, ◌*◌, ◌%◌, ◌<◌};
 ghost use Rattle.alphabet.specs.Model.{SoundGuard, SoundTerm};
 ghost use Rattle.mark_laws.specs.Marks.{marks, goes_into_lem};

@@ -1,4 +1,6 @@
 // Tests of the alphabet of marks and of the characters that marks are printed as.
+#![tactic(auto)]
+
 ghost use Rattle.std.specs.Prelude.{◌≡◌};
 ghost use Rattle.mark_laws.specs.declared.MarkTerm.TheVariants.{Turn};
 

@@ -1,4 +1,6 @@
 // Moves: where a filter stands after one symbol more.
+#![tactic(auto)]
+
 ghost use Rattle.std.specs.Prelude.{◌≡◌, ◌^◌, ◌<◌};
 ghost use Rattle.table.specs.Table.{table_of, final_total_of};
 ghost use Rattle.table.specs.Sound.{Sound};

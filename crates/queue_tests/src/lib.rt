@@ -1,4 +1,6 @@
 // Tests of the queue.
+#![tactic(auto)]
+
 #[cfg(test)]
 mod tests {
     use queue::Queue;

@@ -1,4 +1,6 @@
 // Ranges of symbols: the guards and terms of bytes and code points, what they mean, and that they form an alphabet.
+#![tactic(auto)]
+
 ghost use Rattle.std.specs.Prelude.{◌≤◌};
 ghost use Rattle.alphabet.specs.Laws.{Lawful};
 ghost use Rattle.range_laws.specs.Ranges.{ranges, clamped};

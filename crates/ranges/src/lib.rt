@@ -1,4 +1,6 @@
 // Bytes and code points: the alphabets whose guards are ranges of symbols, by one implementation over the size.
+#![tactic(auto)]
+
 ghost use Rattle.std.specs.Prelude.{◌≡◌, ◌≤◌, nat_abs};
 ghost use Rattle.range_laws.specs.declared.RangeTerm.TheVariants.{Shift};
 ghost use Rattle.range_laws.specs.Ranges.{ranges, clamped, value_at, shifted_into_lem, sum_of, range_of};

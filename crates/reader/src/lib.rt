@@ -1,4 +1,6 @@
 // The reader of stored shelves: it checks a file, and hands out the parts of each body, uncopied.
+#![tactic(auto)]
+
 pub mod body;
 pub mod open;
 pub mod places;

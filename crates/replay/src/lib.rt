@@ -1,4 +1,6 @@
 // Replaying the steps of a comparison: what a filter writes for the text of a step, with no rule looked up.
+#![tactic(auto)]
+
 pub mod compared;
 pub mod lag;
 pub mod sizes;

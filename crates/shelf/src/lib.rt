@@ -3,6 +3,8 @@
 //
 // - `open` makes a shelf over a ledger and three lists, `file` puts a filter on it, `join` the join of two holdings;
 // - `compare` tells two holdings apart, `transduce` puts one to work.
+#![tactic(auto)]
+
 pub mod compare;
 pub mod file;
 pub mod join;

@@ -1,5 +1,7 @@
 // The collection on a shelf: what calls that put filters there do, and the law that no filter is kept twice.
 // Each function stands for a theorem, which its contract states.
+#![tactic(auto)]
+
 ghost use Rattle.shelf_law.specs.Placing.{OneAnswer};
 ghost use Rattle.shelf_law.specs.Law.{CollectionLaw};
 

@@ -1,4 +1,6 @@
 // Tests of the calls on a shelf: what they answer, and what they leave as it was.
+#![tactic(auto)]
+
 #[cfg(test)]
 mod byte_calls;
 #[cfg(test)]

@@ -1,5 +1,7 @@
 // Goes through a long sequence of calls on a shelf, over bytes, code points and marks, and prints for each call what was
 // asked and what was answered.
+#![tactic(auto)]
+
 mod calls;
 mod filters;
 mod lines;

@@ -1,6 +1,8 @@
 // Files the bodies of a stored shelf, and prints what became of each and which texts tell the holdings apart.
 //
 // Standard input is one stored shelf of at most 16,384 bytes. `docs/FORMAT.md` describes the file and what is printed.
+#![tactic(auto)]
+
 mod lines;
 
 use anyhow::anyhow;

@@ -2,6 +2,8 @@
 //
 // With the name of an example as its argument it writes that file to standard output. With none it prints the name of each
 // and its bytes in hexadecimal.
+#![tactic(auto)]
+
 mod builder;
 mod filters;
 

@@ -1,4 +1,6 @@
 // The input of the program `shelve`: which alphabet a file is of, or why it is refused before it is read.
+#![tactic(auto)]
+
 ghost use Rattle.std.specs.Prelude.{◌≡◌};
 ghost use Rattle.shelve_input.specs.Input.{kind_of, code_of};
 

@@ -1,4 +1,6 @@
 // Filing the bodies of a stored shelf one after another, and telling the holdings apart pair by pair.
+#![tactic(auto)]
+
 pub mod filing;
 pub mod report;
 pub mod shelve;

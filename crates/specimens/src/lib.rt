@@ -1,4 +1,6 @@
 // Worked cases: small filters, and what the definitions say of them, by one computed check.
+#![tactic(auto)]
+
 ghost use Rattle.std.specs.Prelude.{◌≡◌, true};
 ghost use Rattle.specimens.specs.Cases.{all_hold};
 ghost use Rattle.specimens.specs.Specimens.{Specimens};

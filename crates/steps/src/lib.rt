@@ -1,4 +1,6 @@
 // The steps of a comparison: what is kept of each text that it looks at, and how steps are found again.
+#![tactic(auto)]
+
 pub mod places;
 pub mod step;
 pub mod text;

@@ -1,4 +1,6 @@
 // Stored shelves: decoding a file onto a shelf, and writing a shelf.
+#![tactic(auto)]
+
 pub mod decoding;
 pub mod encoding;
 

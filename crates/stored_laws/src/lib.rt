@@ -1,4 +1,6 @@
 // Stored shelves: the faults of a file, what bytes mean, and the bytes of tables.
+#![tactic(auto)]
+
 ghost use Rattle.std.specs.Prelude.{◌≡◌};
 ghost use Rattle.stored_laws.specs.Faults.{code_of};
 

@@ -1,4 +1,6 @@
 // Tables of filters: their entries, their faults, and the check that finds the first fault of any three lists.
+#![tactic(auto)]
+
 pub mod check;
 pub mod entries;
 pub mod fault;

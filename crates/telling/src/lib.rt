@@ -1,4 +1,6 @@
 // Telling two sound filters apart, by a text in the witness.
+#![tactic(auto)]
+
 ghost use Rattle.std.specs.Prelude.{length};
 ghost use Rattle.table.specs.Table.{table_of};
 ghost use Rattle.table.specs.Sound.{Sound};
