@@ -84,9 +84,9 @@ pub trait Alphabet {
 
 // The least symbol that two sound guards share, or none.
 pub fn least_shared<A: Alphabet>(left: A::Guard, right: A::Guard) -> Option<u32>
-    requires left { SoundGuard model left }
-    requires right { SoundGuard model right }
-    ensures { LeastFrom (both model left right) 0 result }
+    requires left { SoundGuard A.model left }
+    requires right { SoundGuard A.model right }
+    ensures { LeastFrom (both A.model left right) 0 result }
 {
     let mut from = 0;
     loop {

@@ -39,8 +39,8 @@ fn same_rule(one: Option<usize>, other: Option<usize>) -> bool
 
 // The number of the rule by which a side moves on a symbol, or none.
 fn rule_at<A: Alphabet>(draft: &Draft<'_, A>, state: Option<u16>, symbol: u32) -> Option<usize>
-    requires sound { Sound model (table_of draft.now) }
-    ensures { result ≡ rule_at_lem model (table_of draft.now) state symbol }
+    requires sound { Sound A.model (table_of draft.now) }
+    ensures { result ≡ rule_at_lem A.model (table_of draft.now) state symbol }
 {
     let Some(state) = state else {
         return None;
@@ -54,8 +54,8 @@ fn rule_at<A: Alphabet>(draft: &Draft<'_, A>, state: Option<u16>, symbol: u32) -
 
 // The least symbol at or after a number that a rule of the side holds, or none.
 fn first_held<A: Alphabet>(draft: &Draft<'_, A>, state: Option<u16>, from: u32) -> Option<u32>
-    requires sound { Sound model (table_of draft.now) }
-    ensures { LeastFrom (holds_any (rule_at_lem model (table_of draft.now) state)) from result }
+    requires sound { Sound A.model (table_of draft.now) }
+    ensures { LeastFrom (holds_any (rule_at_lem A.model (table_of draft.now) state)) from result }
 {
     let Some(state) = state else {
         return None;
@@ -71,8 +71,8 @@ fn first_held<A: Alphabet>(draft: &Draft<'_, A>, state: Option<u16>, from: u32) 
 
 // The least number behind a symbol at which the side has another rule than at the symbol, or none.
 fn rule_end<A: Alphabet>(draft: &Draft<'_, A>, state: Option<u16>, symbol: u32) -> Option<u32>
-    requires sound { Sound model (table_of draft.now) }
-    ensures { LeastFrom (changed (rule_at_lem model (table_of draft.now) state) symbol) symbol result }
+    requires sound { Sound A.model (table_of draft.now) }
+    ensures { LeastFrom (changed (rule_at_lem A.model (table_of draft.now) state) symbol) symbol result }
 {
     match rule_at(draft, state, symbol) {
         Some(rule) => Some(A::first_outside(draft.rules[rule].guard, symbol)),
@@ -88,9 +88,9 @@ fn first_of_either<A: Alphabet>(
     right_state: Option<u16>,
     from: u32,
 ) -> Option<u32>
-    requires left { Sound model (table_of left.now) }
-    requires right { Sound model (table_of right.now) }
-    ensures { LeastFrom (held (rule_at_lem model (table_of left.now) left_state) (rule_at_lem model (table_of right.now) right_state)) from result }
+    requires left { Sound A.model (table_of left.now) }
+    requires right { Sound A.model (table_of right.now) }
+    ensures { LeastFrom (held (rule_at_lem A.model (table_of left.now) left_state) (rule_at_lem A.model (table_of right.now) right_state)) from result }
 {
     lower(
         first_held(left, left_state, from),
@@ -106,9 +106,9 @@ fn run_end<A: Alphabet>(
     right_state: Option<u16>,
     symbol: u32,
 ) -> Option<u32>
-    requires left { Sound model (table_of left.now) }
-    requires right { Sound model (table_of right.now) }
-    ensures { LeastFrom (over (rule_at_lem model (table_of left.now) left_state) (rule_at_lem model (table_of right.now) right_state) symbol) symbol result }
+    requires left { Sound A.model (table_of left.now) }
+    requires right { Sound A.model (table_of right.now) }
+    ensures { LeastFrom (over (rule_at_lem A.model (table_of left.now) left_state) (rule_at_lem A.model (table_of right.now) right_state) symbol) symbol result }
 {
     lower(
         rule_end(left, left_state, symbol),
@@ -118,8 +118,8 @@ fn run_end<A: Alphabet>(
 
 // Whether a side has the same rule at a symbol and at the two before it.
 fn rule_repeats<A: Alphabet>(draft: &Draft<'_, A>, state: Option<u16>, symbol: u32) -> bool
-    requires sound { Sound model (table_of draft.now) }
-    ensures { result ≡ thrice (rule_at_lem model (table_of draft.now) state) symbol }
+    requires sound { Sound A.model (table_of draft.now) }
+    ensures { result ≡ thrice (rule_at_lem A.model (table_of draft.now) state) symbol }
 {
     let rule = rule_at(draft, state, symbol);
     symbol >= 2
@@ -135,9 +135,9 @@ fn run_repeats<A: Alphabet>(
     right_state: Option<u16>,
     symbol: u32,
 ) -> bool
-    requires left { Sound model (table_of left.now) }
-    requires right { Sound model (table_of right.now) }
-    ensures { result ≡ (thrice (rule_at_lem model (table_of left.now) left_state) symbol && thrice (rule_at_lem model (table_of right.now) right_state) symbol) }
+    requires left { Sound A.model (table_of left.now) }
+    requires right { Sound A.model (table_of right.now) }
+    ensures { result ≡ (thrice (rule_at_lem A.model (table_of left.now) left_state) symbol && thrice (rule_at_lem A.model (table_of right.now) right_state) symbol) }
 {
     rule_repeats(left, left_state, symbol) && rule_repeats(right, right_state, symbol)
 }
@@ -151,10 +151,10 @@ pub fn next_symbol<A: Alphabet>(
     right_state: Option<u16>,
     from: u32,
 ) -> Option<u32>
-    requires left { Sound model (table_of left.now) }
-    requires right { Sound model (table_of right.now) }
-    ensures least { LeastFrom (worth (rule_at_lem model (table_of left.now) left_state) (rule_at_lem model (table_of right.now) right_state)) from result }
-    ensures guided { Guided (machine_of model (table_of left.now)) (machine_of model (table_of right.now)) left_state right_state from result }
+    requires left { Sound A.model (table_of left.now) }
+    requires right { Sound A.model (table_of right.now) }
+    ensures least { LeastFrom (worth (rule_at_lem A.model (table_of left.now) left_state) (rule_at_lem A.model (table_of right.now) right_state)) from result }
+    ensures guided { Guided (machine_of A.model (table_of left.now)) (machine_of A.model (table_of right.now)) left_state right_state from result }
     ensures bound { Below 2097152 result }
 {
     let Some(first) = first_of_either(left, right, left_state, right_state, from) else {

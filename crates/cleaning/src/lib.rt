@@ -42,7 +42,7 @@ pub fn clean<A: Alphabet>(
     draft: &Draft<'_, A>,
     text: &[u32],
 ) -> Result<(Outcome, Vec<u32>), CleanFault>
-    ensures { Cleans model (table_of draft.now) text.now result }
+    ensures { Cleans A.model (table_of draft.now) text.now result }
 {
     let fault = match transduce(draft, text, &mut []) {
         Ok(outcome) => return Ok((outcome, Vec::new(heap))),

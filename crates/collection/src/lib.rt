@@ -9,14 +9,14 @@ use alphabet::Alphabet;
 
 // A filing has one answer, and leaves one memory.
 pub fn filings_are_determined<A: Alphabet>() -> u8
-    ensures { OneAnswer model }
+    ensures { OneAnswer A.model }
 {
     0
 }
 
 // Whatever calls are made, the collection is lawful.
 pub fn law_holds<A: Alphabet>() -> u8
-    ensures { CollectionLaw model }
+    ensures { CollectionLaw A.model }
 {
     0
 }

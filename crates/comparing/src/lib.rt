@@ -55,9 +55,9 @@ fn compare_sound<A: Alphabet>(
     first: &Draft<'_, A>,
     second: &Draft<'_, A>,
 ) -> Result<Option<Vec<u32>>, CompareFault>
-    requires first { Sound model (table_of first.now) }
-    requires second { Sound model (table_of second.now) }
-    ensures { Compares model (table_of first.now) (table_of second.now) result }
+    requires first { Sound A.model (table_of first.now) }
+    requires second { Sound A.model (table_of second.now) }
+    ensures { Compares A.model (table_of first.now) (table_of second.now) result }
 {
     let frame = frame_of(first, second);
     let needed = steps_needed(frame.left, frame.right);
@@ -84,7 +84,7 @@ pub fn compare_drafts<A: Alphabet>(
     first: &Draft<'_, A>,
     second: &Draft<'_, A>,
 ) -> Result<Option<Vec<u32>>, CompareFault>
-    ensures { Compares model (table_of first.now) (table_of second.now) result }
+    ensures { Compares A.model (table_of first.now) (table_of second.now) result }
 {
     if let Err(fault) = first.check() {
         return Err(CompareFault::First(fault));

@@ -57,12 +57,12 @@ pub fn compare<A: Alphabet>(
     queue: &mut Queue<'_, Step>,
     symbols: &mut [u32],
 ) -> Result<Option<usize>, ScratchShort>
-    requires left { Sound model (table_of left.now) }
-    requires right { Sound model (table_of right.now) }
+    requires left { Sound A.model (table_of left.now) }
+    requires right { Sound A.model (table_of right.now) }
     requires fresh { entries_of queue.old ≡ [] }
     requires taken { queue.old.taken ≡ 0 }
-    ensures answer { Compared model (table_of left.now) (table_of right.now) (slots_of queue.old) (length symbols.old) (entries_of queue.new) result }
-    ensures decides { Decides model (table_of left.now) (table_of right.now) (entries_of queue.new) result }
+    ensures answer { Compared A.model (table_of left.now) (table_of right.now) (slots_of queue.old) (length symbols.old) (entries_of queue.new) result }
+    ensures decides { Decides A.model (table_of left.now) (table_of right.now) (entries_of queue.new) result }
 {
     let frame = frame_of(left, right);
     if queue.room() < steps_needed(frame.left, frame.right) || symbols.len() < 6 * frame.room {

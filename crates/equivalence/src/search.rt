@@ -28,14 +28,14 @@ fn step_agrees<A: Alphabet>(
     step: Step,
     outputs: &mut [u32],
 ) -> bool
-    requires left { Sound model (table_of left.now) }
-    requires right { Sound model (table_of right.now) }
-    requires tracks { Tracks model (table_of left.now) (table_of right.now) steps.now }
-    requires attached { Attached model (table_of left.now) (table_of right.now) steps.now step }
-    requires rooml { RoomFor model (table_of left.now) step.left room }
-    requires roomr { RoomFor model (table_of right.now) step.right room }
+    requires left { Sound A.model (table_of left.now) }
+    requires right { Sound A.model (table_of right.now) }
+    requires tracks { Tracks A.model (table_of left.now) (table_of right.now) steps.now }
+    requires attached { Attached A.model (table_of left.now) (table_of right.now) steps.now step }
+    requires rooml { RoomFor A.model (table_of left.now) step.left room }
+    requires roomr { RoomFor A.model (table_of right.now) step.right room }
     requires room { 4 * room ≤ length outputs.old }
-    ensures { Decides result (Agrees model (table_of left.now) (table_of right.now) steps.now step) }
+    ensures { Decides result (Agrees A.model (table_of left.now) (table_of right.now) steps.now step) }
 {
     let (x, rest) = outputs.split_at_mut(room);
     let (y, _) = rest.split_at_mut(room);
@@ -52,14 +52,14 @@ pub fn search<A: Alphabet>(
     cells: &mut [u32],
     outputs: &mut [u32],
 ) -> Option<usize>
-    requires left { Sound model (table_of left.now) }
-    requires right { Sound model (table_of right.now) }
+    requires left { Sound A.model (table_of left.now) }
+    requires right { Sound A.model (table_of right.now) }
     requires framed { Framed (table_of left.now) (table_of right.now) frame }
     requires slots { steps_needed_lem frame.left frame.right ≤ slots_of queue.old }
     requires cells { steps_needed_lem frame.left frame.right ≤ length cells.old }
     requires room { 4 * frame.room ≤ length outputs.old }
-    requires turned { Turned model (table_of left.now) (table_of right.now) frame.left frame.right frame.width (entries_of queue.old) cells.old queue.old.taken }
-    ensures told { Told (machine_of model (table_of left.now)) (machine_of model (table_of right.now)) (text_in (entries_of queue.new) result) }
+    requires turned { Turned A.model (table_of left.now) (table_of right.now) frame.left frame.right frame.width (entries_of queue.old) cells.old queue.old.taken }
+    ensures told { Told (machine_of A.model (table_of left.now)) (machine_of A.model (table_of right.now)) (text_in (entries_of queue.new) result) }
     ensures early { Early (steps_needed_lem frame.left frame.right) (entries_of queue.new) result }
 {
     while let Some((number, step)) = queue.next() {

@@ -22,9 +22,9 @@ pub fn transduce_sound<A: Alphabet>(
     text: &[u32],
     out: &mut [u32],
 ) -> Result<Outcome, TransduceFault>
-    requires sound { Sound model (table_of draft.now) }
-    ensures answer { result ≡ answer_for (machine_of model (table_of draft.now)) text.now (length out.old) }
-    ensures output { out.new ≡ output_after result (ended (machine_of model (table_of draft.now)) text.now) out.old }
+    requires sound { Sound A.model (table_of draft.now) }
+    ensures answer { result ≡ answer_for (machine_of A.model (table_of draft.now)) text.now (length out.old) }
+    ensures output { out.new ≡ output_after result (ended (machine_of A.model (table_of draft.now)) text.now) out.old }
 {
     if text.len() > MOST_SYMBOLS {
         return Err(TransduceFault::LongText);
@@ -55,10 +55,10 @@ pub fn transduce<A: Alphabet>(
     text: &[u32],
     out: &mut [u32],
 ) -> Result<Outcome, TransduceFault>
-    ensures answer { result ≡ after_check (checked model (table_of draft.now)) (answer_for (machine_of model (table_of draft.now)) text.now (length out.old)) }
-    ensures output { out.new ≡ output_after result (ended (machine_of model (table_of draft.now)) text.now) out.old }
-    ensures agrees { checked model (table_of draft.now) ≡ Ok tt → Agrees model (table_of draft.now) }
-    ensures means { Transduces model (table_of draft.now) text.now out.old out.new result }
+    ensures answer { result ≡ after_check (checked A.model (table_of draft.now)) (answer_for (machine_of A.model (table_of draft.now)) text.now (length out.old)) }
+    ensures output { out.new ≡ output_after result (ended (machine_of A.model (table_of draft.now)) text.now) out.old }
+    ensures agrees { checked A.model (table_of draft.now) ≡ Ok tt → Agrees A.model (table_of draft.now) }
+    ensures means { Transduces A.model (table_of draft.now) text.now out.old out.new result }
 {
     draft.check()?;
     transduce_sound(draft, text, out)

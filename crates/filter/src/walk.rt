@@ -27,10 +27,10 @@ pub fn find<A: Alphabet>(
     state: u16,
     symbol: u32,
 ) -> Option<Found>
-    requires sound { Sound model (table_of draft.now) }
+    requires sound { Sound A.model (table_of draft.now) }
     requires first { first ≡ final_total_of draft.now.states.now }
-    ensures answer { result ≡ found model state symbol 0 first draft.now.rules.now }
-    ensures leads { Finds model (table_of draft.now) state symbol result }
+    ensures answer { result ≡ found A.model state symbol 0 first draft.now.rules.now }
+    ensures leads { Finds A.model (table_of draft.now) state symbol result }
 {
     let mut from = first;
     for (number, rule) in draft.rules.iter().enumerate() {
@@ -60,10 +60,10 @@ fn write_at(out: &mut [u32], place: usize, symbol: u32)
 // Writes the values of terms at a symbol into the output from a place on, as far as it reaches, and answers the place
 // behind them.
 pub fn emit<A: Alphabet>(terms: &[A::Term], symbol: u32, out: &mut [u32], at: usize) -> usize
-    requires sound { AllByRecursion (SoundTerm model) terms.now }
+    requires sound { AllByRecursion (SoundTerm A.model) terms.now }
     requires fits { at + length terms.now < 2 ^ 64 }
-    ensures count { result ≡ at + length (values_of model terms.now symbol) }
-    ensures output { out.new ≡ put at (values_of model terms.now symbol) out.old }
+    ensures count { result ≡ at + length (values_of A.model terms.now symbol) }
+    ensures output { out.new ≡ put at (values_of A.model terms.now symbol) out.old }
 {
     let mut place = at;
     for term in terms {
@@ -83,10 +83,10 @@ pub fn finish<A: Alphabet>(
     out: &mut [u32],
     at: usize,
 ) -> Option<usize>
-    requires sound { Sound model (table_of draft.now) }
+    requires sound { Sound A.model (table_of draft.now) }
     requires fits { at ≤ 2 ^ 63 }
-    ensures answer { result ≡ behind at ((machine_of model (table_of draft.now)).final state) }
-    ensures output { out.new ≡ finished at ((machine_of model (table_of draft.now)).final state) out.old }
+    ensures answer { result ≡ behind at ((machine_of A.model (table_of draft.now)).final state) }
+    ensures output { out.new ≡ finished at ((machine_of A.model (table_of draft.now)).final state) out.old }
 {
     let state = state as usize;
     if state >= draft.states.len() {
@@ -109,11 +109,11 @@ pub fn walk<A: Alphabet>(
     text: &[u32],
     out: &mut [u32],
 ) -> Result<(u16, usize), usize>
-    requires sound { Sound model (table_of draft.now) }
+    requires sound { Sound A.model (table_of draft.now) }
     requires short { length text.now ≤ 1048576 }
-    ensures answer { result ≡ walked (machine_of model (table_of draft.now)) text.now start }
+    ensures answer { result ≡ walked (machine_of A.model (table_of draft.now)) text.now start }
     ensures bound { CountWithin (32 * length text.now) result }
-    ensures output { out.new ≡ put 0 (written (machine_of model (table_of draft.now)) text.now start) out.old }
+    ensures output { out.new ≡ put 0 (written (machine_of A.model (table_of draft.now)) text.now start) out.old }
 {
     let first = final_total(draft.states);
     let mut state = start;

@@ -92,7 +92,7 @@ impl<'a, A: Alphabet> Shelf<'a, A> {
     }
     // Whether the shelf can be read: it fits, and every holding is sound.
     pub fn check(&self) -> Result<(), Fault>
-        ensures { result ≡ checked_shelf model (memory_of self.now) }
+        ensures { result ≡ checked_shelf A.model (memory_of self.now) }
     {
         if !self.fits() {
             return Err(Fault::Misfit);

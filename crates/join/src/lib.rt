@@ -49,16 +49,16 @@ fn fill<'x, A: Alphabet>(
     queue: &mut Queue<'_, Pair>,
     path: &mut [Span],
 ) -> Result<Sizes, TooLarge>
-    requires first { Sound model (table_of first.now) }
-    requires second { Sound model (table_of second.now) }
+    requires first { Sound A.model (table_of first.now) }
+    requires second { Sound A.model (table_of second.now) }
     requires start { entries queue.old ≡ (0, 0) ∷ [] }
     requires waits { queue.old.taken ≡ 0 }
     requires fits { 1 ≤ room queue.old }
     requires few { room queue.old ≤ 64 }
     requires states { room queue.old ≤ length states.old }
     requires path { 32 ≤ length path.old }
-    ensures fills { Fills (joined model (table_of first.now) (table_of second.now)) (room queue.old) states.old states.new rules.old rules.new outputs.old outputs.new result }
-    ensures composes { Joins model (table_of first.now) (table_of second.now) }
+    ensures fills { Fills (joined A.model (table_of first.now) (table_of second.now)) (room queue.old) states.old states.new rules.old rules.new outputs.old outputs.new result }
+    ensures composes { Joins A.model (table_of first.now) (table_of second.now) }
 {
     let counts = explore(first, second, &mut *queue, path, rules, &mut *outputs)?;
     let from = counts.outputs;
@@ -82,10 +82,10 @@ pub fn join<'x, A: Alphabet>(
     outputs: &mut [A::Term],
     pairs: &mut [Pair],
 ) -> Result<Sizes, TooLarge>
-    requires first { Sound model (table_of first.now) }
-    requires second { Sound model (table_of second.now) }
-    ensures joins { Answers (joined model (table_of first.now) (table_of second.now)) (length pairs.old) states.old states.new rules.old rules.new outputs.old outputs.new result }
-    ensures composes { Joins model (table_of first.now) (table_of second.now) }
+    requires first { Sound A.model (table_of first.now) }
+    requires second { Sound A.model (table_of second.now) }
+    ensures joins { Answers (joined A.model (table_of first.now) (table_of second.now)) (length pairs.old) states.old states.new rules.old rules.new outputs.old outputs.new result }
+    ensures composes { Joins A.model (table_of first.now) (table_of second.now) }
 {
     let most = least(least(states.len(), pairs.len()), MOST_STATES);
     if most == 0 {

@@ -26,11 +26,11 @@ fn run_constants<A: Alphabet>(
     start: u16,
     out: &mut [u32],
 ) -> Option<(u16, usize)>
-    requires second { Sound model (table_of second.now) }
-    requires terms { AllByRecursion (SoundTerm model) terms.now }
+    requires second { Sound A.model (table_of second.now) }
+    requires terms { AllByRecursion (SoundTerm A.model) terms.now }
     requires few { length terms.now ≤ 32 }
     requires room { 1056 ≤ length out.old }
-    ensures ran { Ran (run (machine_of model (table_of second.now)) (values_of model terms.now 0) start) out.new 1024 result }
+    ensures ran { Ran (run (machine_of A.model (table_of second.now)) (values_of A.model terms.now 0) start) out.new 1024 result }
 {
     let mut state = start;
     let mut count = 0;
@@ -55,10 +55,10 @@ pub fn final_of<A: Alphabet>(
     pair: (u16, u16),
     out: &mut [u32],
 ) -> Option<usize>
-    requires first { Sound model (table_of first.now) }
-    requires second { Sound model (table_of second.now) }
+    requires first { Sound A.model (table_of first.now) }
+    requires second { Sound A.model (table_of second.now) }
     requires room { 1056 ≤ length out.old }
-    ensures { Ends (final_at model (table_of first.now) (table_of second.now) pair) out.new result }
+    ensures { Ends (final_at A.model (table_of first.now) (table_of second.now) pair) out.new result }
 {
     let state = pair.0 as usize;
     if state >= first.states.len() {

@@ -11,17 +11,17 @@ use table::Draft;
 
 // The first way that holds a symbol is the second filter's run.
 pub fn ways_run<A: Alphabet>(second: &Draft<'_, A>) -> u8
-    requires second { Sound model (table_of second.now) }
-    ensures { WaysRun model (table_of second.now) }
+    requires second { Sound A.model (table_of second.now) }
+    ensures { WaysRun A.model (table_of second.now) }
 {
     0
 }
 
 // The joined filter composes two sound filters.
 pub fn joined_composes<A: Alphabet>(first: &Draft<'_, A>, second: &Draft<'_, A>) -> u8
-    requires first { Sound model (table_of first.now) }
-    requires second { Sound model (table_of second.now) }
-    ensures { Joins model (table_of first.now) (table_of second.now) }
+    requires first { Sound A.model (table_of first.now) }
+    requires second { Sound A.model (table_of second.now) }
+    ensures { Joins A.model (table_of first.now) (table_of second.now) }
 {
     0
 }

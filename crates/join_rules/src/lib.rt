@@ -31,16 +31,16 @@ fn add_line<A: Alphabet>(
     outputs: &mut [A::Term],
     counts: Counts,
 ) -> Result<Counts, TooLarge>
-    requires second { Sound model (table_of course.now.second.now) }
+    requires second { Sound A.model (table_of course.now.second.now) }
     requires first { course.now.first ≡ final_total_of course.now.second.now.states.now }
-    requires terms { AllByRecursion (SoundTerm model) course.now.terms.now }
-    requires guard { SoundGuard model guard }
+    requires terms { AllByRecursion (SoundTerm A.model) course.now.terms.now }
+    requires guard { SoundGuard A.model guard }
     requires fits { length (entries queue.old) ≤ room queue.old }
     requires few { room queue.old ≤ 64 }
     requires path { length course.now.terms.now ≤ length path.old }
     requires rules { counts.rules ≤ length rules.old }
     requires outputs { counts.outputs ≤ length outputs.old }
-    ensures takes { Takes course.now.number (map (aimed next) (ways model (lines_of (table_of course.now.second.now)) course.now.terms.now state guard)) (entries queue.old) (room queue.old) counts rules.old outputs.old (entries queue.new) rules.new outputs.new result }
+    ensures takes { Takes course.now.number (map (aimed next) (ways A.model (lines_of (table_of course.now.second.now)) course.now.terms.now state guard)) (entries queue.old) (room queue.old) counts rules.old outputs.old (entries queue.new) rules.new outputs.new result }
     ensures taken { queue.new.taken ≡ queue.old.taken }
     ensures room { room queue.new ≡ room queue.old }
 {
@@ -63,14 +63,14 @@ fn add_pair<'x, A: Alphabet>(
     outputs: &mut [A::Term],
     counts: Counts,
 ) -> Result<Counts, TooLarge>
-    requires first { Sound model (table_of first.now) }
-    requires second { Sound model (table_of second.now) }
+    requires first { Sound A.model (table_of first.now) }
+    requires second { Sound A.model (table_of second.now) }
     requires fits { length (entries queue.old) ≤ room queue.old }
     requires few { room queue.old ≤ 64 }
     requires path { 32 ≤ length path.old }
     requires rules { counts.rules ≤ length rules.old }
     requires outputs { counts.outputs ≤ length outputs.old }
-    ensures takes { Takes number (ways_at model (table_of first.now) (table_of second.now) pair) (entries queue.old) (room queue.old) counts rules.old outputs.old (entries queue.new) rules.new outputs.new result }
+    ensures takes { Takes number (ways_at A.model (table_of first.now) (table_of second.now) pair) (entries queue.old) (room queue.old) counts rules.old outputs.old (entries queue.new) rules.new outputs.new result }
     ensures taken { queue.new.taken ≡ queue.old.taken }
     ensures room { room queue.new ≡ room queue.old }
 {
@@ -104,14 +104,14 @@ pub fn explore<'x, A: Alphabet>(
     rules: &mut [Rule<A::Guard>],
     outputs: &mut [A::Term],
 ) -> Result<Counts, TooLarge>
-    requires first { Sound model (table_of first.now) }
-    requires second { Sound model (table_of second.now) }
+    requires first { Sound A.model (table_of first.now) }
+    requires second { Sound A.model (table_of second.now) }
     requires start { entries queue.old ≡ (0, 0) ∷ [] }
     requires waits { queue.old.taken ≡ 0 }
     requires fits { 1 ≤ room queue.old }
     requires few { room queue.old ≤ 64 }
     requires path { 32 ≤ length path.old }
-    ensures explores { Explores model (table_of first.now) (table_of second.now) (room queue.old) rules.old outputs.old (entries queue.new) rules.new outputs.new result }
+    ensures explores { Explores A.model (table_of first.now) (table_of second.now) (room queue.old) rules.old outputs.old (entries queue.new) rules.new outputs.new result }
     ensures room { room queue.new ≡ room queue.old }
 {
     let mut counts = Counts {

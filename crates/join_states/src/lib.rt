@@ -23,9 +23,9 @@ fn write_constants<A: Alphabet>(
     outputs: &mut [A::Term],
     at: usize,
 ) -> Result<usize, TooLarge>
-    requires inside { AllByRecursion (λ c. c < model.size) symbols.now }
+    requires inside { AllByRecursion (λ c. c < A.model.size) symbols.now }
     requires at { at ≤ length outputs.old }
-    ensures { Wrote at (map model.constant symbols.now) outputs.old outputs.new result }
+    ensures { Wrote at (map A.model.constant symbols.now) outputs.old outputs.new result }
 {
     let mut place = at;
     for symbol in symbols {
@@ -46,10 +46,10 @@ fn add_state<A: Alphabet>(
     outputs: &mut [A::Term],
     at: usize,
 ) -> Result<(State, usize), TooLarge>
-    requires first { Sound model (table_of first.now) }
-    requires second { Sound model (table_of second.now) }
+    requires first { Sound A.model (table_of first.now) }
+    requires second { Sound A.model (table_of second.now) }
     requires at { at ≤ length outputs.old }
-    ensures { Ended model at (final_at model (table_of first.now) (table_of second.now) pair) outputs.old outputs.new result }
+    ensures { Ended A.model at (final_at A.model (table_of first.now) (table_of second.now) pair) outputs.old outputs.new result }
 {
     let mut symbols = [0; MOST_SYMBOLS];
     let Some(count) = final_of(first, second, pair, &mut symbols) else {
@@ -75,11 +75,11 @@ pub fn add_states<A: Alphabet>(
     outputs: &mut [A::Term],
     at: usize,
 ) -> Result<usize, TooLarge>
-    requires first { Sound model (table_of first.now) }
-    requires second { Sound model (table_of second.now) }
+    requires first { Sound A.model (table_of first.now) }
+    requires second { Sound A.model (table_of second.now) }
     requires states { length pairs.now ≤ length states.old }
     requires at { at ≤ length outputs.old }
-    ensures { EndedAll model at (map (final_at model (table_of first.now) (table_of second.now)) pairs.now) states.old states.new outputs.old outputs.new result }
+    ensures { EndedAll A.model at (map (final_at A.model (table_of first.now) (table_of second.now)) pairs.now) states.old states.new outputs.old outputs.new result }
 {
     let mut place = at;
     for (number, pair) in pairs.iter().enumerate() {

@@ -62,8 +62,8 @@ fn join_sound<'x, A: Alphabet>(
     rule: Rule<A::Guard>,
     term: A::Term,
 ) -> Result<Joined<A::Guard, A::Term>, NoJoin>
-    requires first { Sound model (table_of first.now) }
-    requires second { Sound model (table_of second.now) }
+    requires first { Sound A.model (table_of first.now) }
+    requires second { Sound A.model (table_of second.now) }
 {
     let mut states = filled(heap, State { mark: 0, finals: 0 }, room.states)?;
     let mut rules = filled(heap, rule, room.rules)?;

@@ -33,12 +33,12 @@ fn add_rule<A: Alphabet>(
     outputs: &mut [A::Term],
     counts: Counts,
 ) -> Result<Counts, TooLarge>
-    requires terms { AllByRecursion (SoundTerm model) course.now.terms.now }
+    requires terms { AllByRecursion (SoundTerm A.model) course.now.terms.now }
     requires path { length path.now ≡ length course.now.terms.now }
-    requires spans { AllByRecursion (SoundSpan model course.now.second.now.outputs.now) path.now }
+    requires spans { AllByRecursion (SoundSpan A.model course.now.second.now.outputs.now) path.now }
     requires rules { counts.rules ≤ length rules.old }
     requires outputs { counts.outputs ≤ length outputs.old }
-    ensures { Adds counts (whole_line course.now.number (along model course.now.terms.now (map (within course.now.second.now.outputs.now) path.now)) state guard ∷ []) rules.old rules.new outputs.old outputs.new result }
+    ensures { Adds counts (whole_line course.now.number (along A.model course.now.terms.now (map (within course.now.second.now.outputs.now) path.now)) state guard ∷ []) rules.old rules.new outputs.old outputs.new result }
 {
     let from = counts.outputs;
     let to = write_along::<A>(course.terms, course.second.outputs, path, outputs, from)?;
@@ -70,16 +70,16 @@ pub fn add_ways<A: Alphabet>(
     outputs: &mut [A::Term],
     counts: Counts,
 ) -> Result<Counts, TooLarge>
-    requires second { Sound model (table_of course.now.second.now) }
+    requires second { Sound A.model (table_of course.now.second.now) }
     requires first { course.now.first ≡ final_total_of course.now.second.now.states.now }
-    requires terms { AllByRecursion (SoundTerm model) course.now.terms.now }
+    requires terms { AllByRecursion (SoundTerm A.model) course.now.terms.now }
     requires depth { depth ≤ length course.now.terms.now }
     requires path { length course.now.terms.now ≤ length path.old }
-    requires spans { AllByRecursion (SoundSpan model course.now.second.now.outputs.now) (take depth path.old) }
-    requires guard { SoundGuard model guard }
+    requires spans { AllByRecursion (SoundSpan A.model course.now.second.now.outputs.now) (take depth path.old) }
+    requires guard { SoundGuard A.model guard }
     requires rules { counts.rules ≤ length rules.old }
     requires outputs { counts.outputs ≤ length outputs.old }
-    ensures adds { Adds counts (map (raw_line course.now.number (along model (take depth course.now.terms.now) (map (within course.now.second.now.outputs.now) (take depth path.old)))) (ways_from model (lines_of (table_of course.now.second.now)) (drop depth course.now.terms.now) state guard)) rules.old rules.new outputs.old outputs.new result }
+    ensures adds { Adds counts (map (raw_line course.now.number (along A.model (take depth course.now.terms.now) (map (within course.now.second.now.outputs.now) (take depth path.old)))) (ways_from A.model (lines_of (table_of course.now.second.now)) (drop depth course.now.terms.now) state guard)) rules.old rules.new outputs.old outputs.new result }
     ensures keeps { take depth path.new ≡ take depth path.old }
 {
     if depth >= course.terms.len() {

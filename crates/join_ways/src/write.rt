@@ -39,10 +39,10 @@ fn write_followed<A: Alphabet>(
     outputs: &mut [A::Term],
     at: usize,
 ) -> Result<usize, TooLarge>
-    requires term { SoundTerm model term }
-    requires others { AllByRecursion (SoundTerm model) others.now }
+    requires term { SoundTerm A.model term }
+    requires others { AllByRecursion (SoundTerm A.model) others.now }
     requires at { at ≤ length outputs.old }
-    ensures { Wrote at (followed_by model term others.now) outputs.old outputs.new result }
+    ensures { Wrote at (followed_by A.model term others.now) outputs.old outputs.new result }
 {
     let mut place = at;
     for other in others {
@@ -67,11 +67,11 @@ pub(crate) fn write_along<A: Alphabet>(
     outputs: &mut [A::Term],
     at: usize,
 ) -> Result<usize, TooLarge>
-    requires terms { AllByRecursion (SoundTerm model) terms.now }
+    requires terms { AllByRecursion (SoundTerm A.model) terms.now }
     requires path { length path.now ≡ length terms.now }
-    requires spans { AllByRecursion (SoundSpan model second.now) path.now }
+    requires spans { AllByRecursion (SoundSpan A.model second.now) path.now }
     requires at { at ≤ length outputs.old }
-    ensures { Wrote at (along model terms.now (map (within second.now) path.now)) outputs.old outputs.new result }
+    ensures { Wrote at (along A.model terms.now (map (within second.now) path.now)) outputs.old outputs.new result }
 {
     let mut place = at;
     for (depth, term) in terms.iter().enumerate() {

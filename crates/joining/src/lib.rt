@@ -31,10 +31,10 @@ fn compose_views<A: Alphabet>(
     outputs: &mut [A::Term],
     pairs: &mut [Pair],
 ) -> Result<Sizes, TooLarge>
-    requires readable { Readable model (memory_of shelf.now) }
+    requires readable { Readable A.model (memory_of shelf.now) }
     requires first { i < shelf.now.head.holdings }
     requires second { j < shelf.now.head.holdings }
-    ensures { Answers (joined model (holding (memory_of shelf.now) i) (holding (memory_of shelf.now) j)) (length pairs.old) states.old states.new rules.old rules.new outputs.old outputs.new result }
+    ensures { Answers (joined A.model (holding (memory_of shelf.now) i) (holding (memory_of shelf.now) j)) (length pairs.old) states.old states.new rules.old rules.new outputs.old outputs.new result }
 {
     let first = shelf.view(i);
     let second = shelf.view(j);
@@ -77,10 +77,10 @@ pub fn place_joined<A: Alphabet>(
     steps: &mut [Step],
     symbols: &mut [u32],
 ) -> Result<usize, Fault>
-    requires readable { Readable model (memory_of shelf.old) }
+    requires readable { Readable A.model (memory_of shelf.old) }
     requires first { Has (memory_of shelf.old) first }
     requires second { Has (memory_of shelf.old) second }
-    ensures { Does model (scratch_of (length steps.old) (length symbols.old)) (memory_of shelf.old) (Joining first second (lists_of (length states.old) (length rules.old) (length outputs.old) (length pairs.old))) result (memory_of shelf.new) }
+    ensures { Does A.model (scratch_of (length steps.old) (length symbols.old)) (memory_of shelf.old) (Joining first second (lists_of (length states.old) (length rules.old) (length outputs.old) (length pairs.old))) result (memory_of shelf.new) }
 {
     let (i, j) = (first - 1, second - 1);
     let Ok(sizes) = compose_views(

@@ -24,8 +24,8 @@ pub struct Frame {
 
 // The frame of two filters.
 pub fn frame_of<A: Alphabet>(left: &Draft<'_, A>, right: &Draft<'_, A>) -> Frame
-    requires left { Sound model (table_of left.now) }
-    requires right { Sound model (table_of right.now) }
+    requires left { Sound A.model (table_of left.now) }
+    requires right { Sound A.model (table_of right.now) }
     ensures framed { Framed (table_of left.now) (table_of right.now) result }
     ensures width { result.width ≡ width_of (table_of left.now) (table_of right.now) }
 {

@@ -22,12 +22,12 @@ fn lags_alike<A: Alphabet>(
     second: Step,
     outputs: &mut [u32],
 ) -> bool
-    requires tracks { Tracks model (table_of left.now) (table_of right.now) steps.now }
-    requires first { Attached model (table_of left.now) (table_of right.now) steps.now first }
-    requires second { Attached model (table_of left.now) (table_of right.now) steps.now second }
+    requires tracks { Tracks A.model (table_of left.now) (table_of right.now) steps.now }
+    requires first { Attached A.model (table_of left.now) (table_of right.now) steps.now first }
+    requires second { Attached A.model (table_of left.now) (table_of right.now) steps.now second }
     requires short { (first.left.total ≤ room) × (first.right.total ≤ room) × (second.left.total ≤ room) × (second.right.total ≤ room) }
     requires room { 4 * room ≤ length outputs.old }
-    ensures { Decides result (lag_by model (table_of left.now) (table_of right.now) steps.now first ≡ lag_by model (table_of left.now) (table_of right.now) steps.now second) }
+    ensures { Decides result (lag_by A.model (table_of left.now) (table_of right.now) steps.now first ≡ lag_by A.model (table_of left.now) (table_of right.now) steps.now second) }
 {
     let (x, rest) = outputs.split_at_mut(room);
     let (y, rest) = rest.split_at_mut(room);
@@ -58,12 +58,12 @@ pub fn judge<A: Alphabet>(
     outputs: &mut [u32],
 ) -> Option<bool>
     requires framed { Framed (table_of left.now) (table_of right.now) frame }
-    requires going { Going model (table_of left.now) (table_of right.now) frame.left frame.right frame.width steps.now cells.now next.parent next.symbol }
-    requires extends { Extends model (table_of left.now) (table_of right.now) frame.left frame.right frame.width steps.now next }
+    requires going { Going A.model (table_of left.now) (table_of right.now) frame.left frame.right frame.width steps.now cells.now next.parent next.symbol }
+    requires extends { Extends A.model (table_of left.now) (table_of right.now) frame.left frame.right frame.width steps.now next }
     requires alive { both_dead_lem next.left.state next.right.state ≡ false }
     requires cells { steps_needed_lem frame.left frame.right ≤ length cells.now }
     requires room { 4 * frame.room ≤ length outputs.old }
-    ensures { Judged model (table_of left.now) (table_of right.now) frame.left frame.right frame.width steps.now next result }
+    ensures { Judged A.model (table_of left.now) (table_of right.now) frame.left frame.right frame.width steps.now next result }
 {
     let Frame {
         left: p,

@@ -25,10 +25,10 @@ fn no_state() -> Side
 
 // Where a filter stands after one symbol more. `first` is where the outputs of rules begin.
 pub fn onward<A: Alphabet>(draft: &Draft<'_, A>, first: usize, side: Side, symbol: u32) -> Side
-    requires sound { Sound model (table_of draft.now) }
+    requires sound { Sound A.model (table_of draft.now) }
     requires first { first ≡ final_total_of draft.now.states.now }
     requires small { side.total < 2 ^ 31 }
-    ensures { Moved model (table_of draft.now) side symbol result }
+    ensures { Moved A.model (table_of draft.now) side symbol result }
 {
     let Some(state) = side.state else {
         return no_state();

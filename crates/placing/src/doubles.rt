@@ -22,10 +22,10 @@ pub fn are_equivalent<A: Alphabet>(
     steps: &mut [Step],
     symbols: &mut [u32],
 ) -> bool
-    requires left { Sound model (table_of left.now) }
-    requires right { Sound model (table_of right.now) }
-    requires enough { Enough model (scratch_of (length steps.old) (length symbols.old)) (table_of left.now) (table_of right.now) }
-    ensures { Decides result (Equivalent model (table_of left.now) (table_of right.now)) }
+    requires left { Sound A.model (table_of left.now) }
+    requires right { Sound A.model (table_of right.now) }
+    requires enough { Enough A.model (scratch_of (length steps.old) (length symbols.old)) (table_of left.now) (table_of right.now) }
+    ensures { Decides result (Equivalent A.model (table_of left.now) (table_of right.now)) }
 {
     let mut queue = Queue::new(steps);
     let Ok(answer) = compare(left, right, &mut queue, symbols) else {
@@ -44,10 +44,10 @@ pub fn first_double<A: Alphabet>(
     steps: &mut [Step],
     symbols: &mut [u32],
 ) -> Option<usize>
-    requires readable { checked_shelf model (memory_of shelf.now) ≡ Ok tt }
-    requires sound { Sound model (table_of draft.now) }
-    requires enough { EveryHolding (memory_of shelf.now) (Enough model (scratch_of (length steps.old) (length symbols.old)) (table_of draft.now)) }
-    ensures { First (memory_of shelf.now) (Equivalent model (table_of draft.now)) result }
+    requires readable { checked_shelf A.model (memory_of shelf.now) ≡ Ok tt }
+    requires sound { Sound A.model (table_of draft.now) }
+    requires enough { EveryHolding (memory_of shelf.now) (Enough A.model (scratch_of (length steps.old) (length symbols.old)) (table_of draft.now)) }
+    ensures { First (memory_of shelf.now) (Equivalent A.model (table_of draft.now)) result }
 {
     let holdings = shelf.head.holdings;
     for i in 0..holdings {

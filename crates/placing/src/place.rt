@@ -23,9 +23,9 @@ pub fn place<A: Alphabet>(
     steps: &mut [Step],
     symbols: &mut [u32],
 ) -> Result<usize, Fault>
-    requires readable { checked_shelf model (memory_of shelf.old) ≡ Ok tt }
-    requires sound { Sound model (table_of draft.now) }
-    ensures { Placing model (scratch_of (length steps.old) (length symbols.old)) (memory_of shelf.old) (table_of draft.now) result (memory_of shelf.new) }
+    requires readable { checked_shelf A.model (memory_of shelf.old) ≡ Ok tt }
+    requires sound { Sound A.model (table_of draft.now) }
+    ensures { Placing A.model (scratch_of (length steps.old) (length symbols.old)) (memory_of shelf.old) (table_of draft.now) result (memory_of shelf.new) }
 {
     if let Some(number) = first_short(&*shelf, draft, steps.len(), symbols.len()) {
         return Err(Fault::ShortScratch(number));

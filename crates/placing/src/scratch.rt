@@ -20,9 +20,9 @@ pub fn is_short<A: Alphabet>(
     steps: usize,
     symbols: usize,
 ) -> bool
-    requires left { Sound model (table_of left.now) }
-    requires right { Sound model (table_of right.now) }
-    ensures { Decides result (Short model (scratch_of steps symbols) (table_of left.now) (table_of right.now)) }
+    requires left { Sound A.model (table_of left.now) }
+    requires right { Sound A.model (table_of right.now) }
+    ensures { Decides result (Short A.model (scratch_of steps symbols) (table_of left.now) (table_of right.now)) }
 {
     let frame = frame_of(left, right);
     steps < steps_needed(frame.left, frame.right) || symbols < 6 * frame.room
@@ -35,9 +35,9 @@ pub fn first_short<A: Alphabet>(
     steps: usize,
     symbols: usize,
 ) -> Option<usize>
-    requires readable { checked_shelf model (memory_of shelf.now) ≡ Ok tt }
-    requires sound { Sound model (table_of draft.now) }
-    ensures { First (memory_of shelf.now) (Short model (scratch_of steps symbols) (table_of draft.now)) result }
+    requires readable { checked_shelf A.model (memory_of shelf.now) ≡ Ok tt }
+    requires sound { Sound A.model (table_of draft.now) }
+    ensures { First (memory_of shelf.now) (Short A.model (scratch_of steps symbols) (table_of draft.now)) result }
 {
     let holdings = shelf.head.holdings;
     for i in 0..holdings {

@@ -28,13 +28,13 @@ pub fn agree<A: Alphabet>(
     x: &mut [u32],
     y: &mut [u32],
 ) -> bool
-    requires left { Sound model (table_of left.now) }
-    requires right { Sound model (table_of right.now) }
-    requires tracks { Tracks model (table_of left.now) (table_of right.now) steps.now }
-    requires attached { Attached model (table_of left.now) (table_of right.now) steps.now step }
-    requires rooml { RoomFor model (table_of left.now) step.left (length x.old) }
-    requires roomr { RoomFor model (table_of right.now) step.right (length y.old) }
-    ensures { Decides result (Agrees model (table_of left.now) (table_of right.now) steps.now step) }
+    requires left { Sound A.model (table_of left.now) }
+    requires right { Sound A.model (table_of right.now) }
+    requires tracks { Tracks A.model (table_of left.now) (table_of right.now) steps.now }
+    requires attached { Attached A.model (table_of left.now) (table_of right.now) steps.now step }
+    requires rooml { RoomFor A.model (table_of left.now) step.left (length x.old) }
+    requires roomr { RoomFor A.model (table_of right.now) step.right (length y.old) }
+    ensures { Decides result (Agrees A.model (table_of left.now) (table_of right.now) steps.now step) }
 {
     let first = whole(left, Hand::Left, steps, step, x);
     let second = whole(right, Hand::Right, steps, step, y);
@@ -57,14 +57,14 @@ pub fn same_lags<A: Alphabet>(
     z: &mut [u32],
     w: &mut [u32],
 ) -> bool
-    requires tracks { Tracks model (table_of left.now) (table_of right.now) steps.now }
-    requires first { Attached model (table_of left.now) (table_of right.now) steps.now first }
-    requires second { Attached model (table_of left.now) (table_of right.now) steps.now second }
+    requires tracks { Tracks A.model (table_of left.now) (table_of right.now) steps.now }
+    requires first { Attached A.model (table_of left.now) (table_of right.now) steps.now first }
+    requires second { Attached A.model (table_of left.now) (table_of right.now) steps.now second }
     requires rooml { first.left.total ≤ length x.old }
     requires roomr { first.right.total ≤ length y.old }
     requires moreroom { second.left.total ≤ length z.old }
     requires morerooms { second.right.total ≤ length w.old }
-    ensures { Decides result (lag_by model (table_of left.now) (table_of right.now) steps.now first ≡ lag_by model (table_of left.now) (table_of right.now) steps.now second) }
+    ensures { Decides result (lag_by A.model (table_of left.now) (table_of right.now) steps.now first ≡ lag_by A.model (table_of left.now) (table_of right.now) steps.now second) }
 {
     let i = output(left, Hand::Left, steps, first, x);
     let j = output(right, Hand::Right, steps, first, y);

@@ -20,12 +20,12 @@ pub fn output<A: Alphabet>(
     out: &mut [u32],
 ) -> usize
     requires tree { Tree steps.now }
-    requires traced { Traced model (table_of draft.now) hand steps.now }
+    requires traced { Traced A.model (table_of draft.now) hand steps.now }
     requires above { step.parent < length steps.now }
-    requires sits { Sits model (table_of draft.now) (text_of steps.now step.parent) step.symbol (side_of hand step) }
+    requires sits { Sits A.model (table_of draft.now) (text_of steps.now step.parent) step.symbol (side_of hand step) }
     requires room { (side_of hand step).total ≤ length out.old }
     ensures count { result ≡ (side_of hand step).total }
-    ensures output { take result out.new ≡ output_by model (table_of draft.now) (text_of steps.now step.parent) step.symbol (side_of hand step) }
+    ensures output { take result out.new ≡ output_by A.model (table_of draft.now) (text_of steps.now step.parent) step.symbol (side_of hand step) }
 {
     let mut at = step;
     let mut side = side_of(at, hand);
@@ -50,13 +50,13 @@ pub fn whole<A: Alphabet>(
     step: Step,
     out: &mut [u32],
 ) -> Option<usize>
-    requires sound { Sound model (table_of draft.now) }
+    requires sound { Sound A.model (table_of draft.now) }
     requires tree { Tree steps.now }
-    requires traced { Traced model (table_of draft.now) hand steps.now }
+    requires traced { Traced A.model (table_of draft.now) hand steps.now }
     requires above { step.parent < length steps.now }
-    requires sits { Sits model (table_of draft.now) (text_of steps.now step.parent) step.symbol (side_of hand step) }
-    requires room { RoomFor model (table_of draft.now) (side_of hand step) (length out.old) }
-    ensures whole { wrote result out.new ≡ whole_by model (table_of draft.now) (text_of steps.now step.parent) step.symbol (side_of hand step) }
+    requires sits { Sits A.model (table_of draft.now) (text_of steps.now step.parent) step.symbol (side_of hand step) }
+    requires room { RoomFor A.model (table_of draft.now) (side_of hand step) (length out.old) }
+    ensures whole { wrote result out.new ≡ whole_by A.model (table_of draft.now) (text_of steps.now step.parent) step.symbol (side_of hand step) }
     ensures fits { Within result (length out.old) }
 {
     let state = side_of(step, hand).state?;

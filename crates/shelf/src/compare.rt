@@ -20,8 +20,8 @@ pub fn compare<A: Alphabet>(
     scratch: Scratch<'_>,
     witness: &mut [u32],
 ) -> Result<Comparison, Fault>
-    ensures compares { Compares model (lent scratch.entry) (memory_of shelf.now) first second witness.old result witness.new }
-    ensures told { (h : List (Call _ _)) → Reached model h (memory_of shelf.now) → ToldApart model (memory_of shelf.now) }
+    ensures compares { Compares A.model (lent scratch.entry) (memory_of shelf.now) first second witness.old result witness.new }
+    ensures told { (h : List (Call _ _)) → Reached A.model h (memory_of shelf.now) → ToldApart A.model (memory_of shelf.now) }
 {
     shelf.check()?;
     let one = shelf.place(first)?;

@@ -20,8 +20,8 @@ pub fn file<A: Alphabet>(
     draft: &Draft<'_, A>,
     scratch: Scratch<'_>,
 ) -> Result<usize, Fault>
-    ensures does { Does model (lent scratch.entry) (memory_of shelf.old) (Filing (table_of draft.now)) result (memory_of shelf.new) }
-    ensures law { KeepsLaw model (call_of (Filing (table_of draft.now)) (lent scratch.entry) (memory_of shelf.old) result (memory_of shelf.new)) }
+    ensures does { Does A.model (lent scratch.entry) (memory_of shelf.old) (Filing (table_of draft.now)) result (memory_of shelf.new) }
+    ensures law { KeepsLaw A.model (call_of (Filing (table_of draft.now)) (lent scratch.entry) (memory_of shelf.old) result (memory_of shelf.new)) }
 {
     shelf.check()?;
     draft.check()?;

@@ -22,9 +22,9 @@ pub fn join<A: Alphabet>(
     lists: JoinLists<'_, A>,
     scratch: Scratch<'_>,
 ) -> Result<usize, Fault>
-    ensures does { Does model (lent scratch.entry) (memory_of shelf.old) (Joining first second (lent_lists lists.entry)) result (memory_of shelf.new) }
-    ensures law { KeepsLaw model (call_of (Joining first second (lent_lists lists.entry)) (lent scratch.entry) (memory_of shelf.old) result (memory_of shelf.new)) }
-    ensures composes { JoinedUnder model (memory_of shelf.old) first second result (memory_of shelf.new) }
+    ensures does { Does A.model (lent scratch.entry) (memory_of shelf.old) (Joining first second (lent_lists lists.entry)) result (memory_of shelf.new) }
+    ensures law { KeepsLaw A.model (call_of (Joining first second (lent_lists lists.entry)) (lent scratch.entry) (memory_of shelf.old) result (memory_of shelf.new)) }
+    ensures composes { JoinedUnder A.model (memory_of shelf.old) first second result (memory_of shelf.new) }
 {
     shelf.check()?;
     shelf.place(first)?;

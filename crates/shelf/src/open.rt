@@ -17,8 +17,8 @@ pub fn open<'a, A: Alphabet>(
     outputs: &'a mut [A::Term],
 ) -> Shelf<'a, A>
     ensures memory { memory_of result ≡ opened ledger.old states.old rules.old outputs.old }
-    ensures begins { Reached model [] (memory_of result) }
-    ensures law { Law model [] (memory_of result) }
+    ensures begins { Reached A.model [] (memory_of result) }
+    ensures law { Law A.model [] (memory_of result) }
 {
     Shelf::open(ledger, states, rules, outputs)
 }

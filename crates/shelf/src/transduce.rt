@@ -15,7 +15,7 @@ pub fn transduce<A: Alphabet>(
     text: &[u32],
     output: &mut [u32],
 ) -> Result<Outcome, Fault>
-    ensures { TransducesAt model (memory_of shelf.now) number text.now output.old result output.new }
+    ensures { TransducesAt A.model (memory_of shelf.now) number text.now output.old result output.new }
 {
     shelf.check()?;
     let place = shelf.place(number)?;

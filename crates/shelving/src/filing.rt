@@ -21,7 +21,7 @@ pub fn file_bodies<A: Alphabet>(
     symbols: &mut [u32],
 ) -> Result<Vec<Verdict>, AllocError>
     requires fits { fitting (memory_of bodies.now) ≡ true }
-    ensures { IfOk result (λ v. Run model (scratch_of (length steps.old) (length symbols.old)) (memory_of bodies.now) (memory_of shelf.old) bodies.now.head.holdings v.items (memory_of shelf.new)) }
+    ensures { IfOk result (λ v. Run A.model (scratch_of (length steps.old) (length symbols.old)) (memory_of bodies.now) (memory_of shelf.old) bodies.now.head.holdings v.items (memory_of shelf.new)) }
 {
     let mut verdicts = Vec::new(heap);
     let count = bodies.head.holdings;

@@ -50,10 +50,10 @@ fn shelve_on<A: Alphabet>(
     witness: &mut [u32],
 ) -> Result<Shelved, AllocError>
     requires fits { fitting (memory_of bodies.now) ≡ true }
-    requires begins { Reached model [] (memory_of shelf.old) }
+    requires begins { Reached A.model [] (memory_of shelf.old) }
     requires empty { shelf.old.head.holdings ≡ 0 }
     requires witness { length slots.old ≤ length witness.old }
-    ensures { IfOk result (Shelving model (scratch_of (length slots.old) (length scratch.old)) (memory_of bodies.now) (memory_of shelf.old)) }
+    ensures { IfOk result (Shelving A.model (scratch_of (length slots.old) (length scratch.old)) (memory_of bodies.now) (memory_of shelf.old)) }
 {
     let verdicts = file_bodies(heap, bodies, &mut *shelf, &mut *slots, &mut *scratch)?;
     let pairs = tell_pairs(heap, &*shelf, slots, scratch, witness)?;
@@ -68,7 +68,7 @@ pub fn shelve<A: Alphabet>(
     steps: usize,
     symbols: usize,
 ) -> Result<Shelved, ShelveFault>
-    ensures { Shelves model steps symbols (memory_of bodies.now) result }
+    ensures { Shelves A.model steps symbols (memory_of bodies.now) result }
 {
     if !bodies.fits() {
         return Err(ShelveFault::Misfit);

@@ -25,12 +25,12 @@ fn text_between<A: Alphabet>(
     symbols: &mut [u32],
     witness: &mut [u32],
 ) -> usize
-    requires separable { Separable model (scratch_of (length steps.old) (length symbols.old)) (length witness.old) (memory_of shelf.now) }
+    requires separable { Separable A.model (scratch_of (length steps.old) (length symbols.old)) (length witness.old) (memory_of shelf.now) }
     requires low { 1 ≤ first }
     requires order { first < second }
     requires high { second ≤ shelf.now.head.holdings }
     ensures within { result ≤ length witness.new }
-    ensures earliest { Earliest model (numbered (memory_of shelf.now) first) (numbered (memory_of shelf.now) second) (take result witness.new) }
+    ensures earliest { Earliest A.model (numbered (memory_of shelf.now) first) (numbered (memory_of shelf.now) second) (take result witness.new) }
 {
     let scratch = Scratch { steps, symbols };
     let answer = compare(shelf, first, second, scratch, witness);
@@ -53,12 +53,12 @@ fn tell_row<A: Alphabet>(
     lines: &mut Vec<Pair>,
     texts: &mut Vec<u32>,
 ) -> Result<(), AllocError>
-    requires separable { Separable model (scratch_of (length steps.old) (length symbols.old)) (length witness.old) (memory_of shelf.now) }
+    requires separable { Separable A.model (scratch_of (length steps.old) (length symbols.old)) (length witness.old) (memory_of shelf.now) }
     requires low { 1 ≤ first }
     requires high { first ≤ shelf.now.head.holdings }
     requires few { shelf.now.head.holdings ≤ 16 }
-    requires before { Told model (memory_of shelf.now) first (first + 1) lines.old.items texts.old.items }
-    ensures { OnOk result (Told model (memory_of shelf.now) first (shelf.now.head.holdings + 1) lines.new.items texts.new.items) }
+    requires before { Told A.model (memory_of shelf.now) first (first + 1) lines.old.items texts.old.items }
+    ensures { OnOk result (Told A.model (memory_of shelf.now) first (shelf.now.head.holdings + 1) lines.new.items texts.new.items) }
 {
     let last = shelf.head.holdings;
     for second in first + 1..last + 1 {
@@ -88,9 +88,9 @@ pub fn tell_pairs<A: Alphabet>(
     symbols: &mut [u32],
     witness: &mut [u32],
 ) -> Result<Pairs, AllocError>
-    requires separable { Separable model (scratch_of (length steps.old) (length symbols.old)) (length witness.old) (memory_of shelf.now) }
+    requires separable { Separable A.model (scratch_of (length steps.old) (length symbols.old)) (length witness.old) (memory_of shelf.now) }
     requires few { shelf.now.head.holdings ≤ 16 }
-    ensures { IfOk result (λ p. Told model (memory_of shelf.now) (shelf.now.head.holdings + 1) (shelf.now.head.holdings + 2) p.lines.items p.texts.items) }
+    ensures { IfOk result (λ p. Told A.model (memory_of shelf.now) (shelf.now.head.holdings + 1) (shelf.now.head.holdings + 2) p.lines.items p.texts.items) }
 {
     let mut lines = Vec::new(heap);
     let mut texts = Vec::new(heap);

@@ -54,7 +54,7 @@ fn check_rule<A: Alphabet>(
     number: usize,
     rule: Rule<A::Guard>,
 ) -> Result<(), TableFault>
-    ensures { result ≡ check_rule_lem model states number rule }
+    ensures { result ≡ check_rule_lem A.model states number rule }
 {
     if rule.state as usize >= states || rule.next as usize >= states {
         return Err(TableFault::MissingState(number));
@@ -67,7 +67,7 @@ fn check_rule<A: Alphabet>(
 }
 
 fn check_rules<A: Alphabet>(states: usize, rules: &[Rule<A::Guard>]) -> Result<(), TableFault>
-    ensures { result ≡ each (check_rule_lem model states) 0 rules.now }
+    ensures { result ≡ each (check_rule_lem A.model states) 0 rules.now }
 {
     for (number, rule) in rules.iter().enumerate() {
         check_rule::<A>(states, number, *rule)?;
@@ -102,7 +102,7 @@ fn rule_total<G: Copy>(rules: &[Rule<G>]) -> usize
 }
 
 fn check_final<A: Alphabet>(number: usize, term: A::Term) -> Result<(), TableFault>
-    ensures { result ≡ check_final_lem model number term }
+    ensures { result ≡ check_final_lem A.model number term }
 {
     at_output(number, A::check_term(term))?;
     match A::constant_value(term) {
@@ -112,7 +112,7 @@ fn check_final<A: Alphabet>(number: usize, term: A::Term) -> Result<(), TableFau
 }
 
 fn check_finals<A: Alphabet>(terms: &[A::Term]) -> Result<(), TableFault>
-    ensures { result ≡ each (check_final_lem model) 0 terms.now }
+    ensures { result ≡ each (check_final_lem A.model) 0 terms.now }
 {
     for (number, term) in terms.iter().enumerate() {
         check_final::<A>(number, *term)?;
@@ -125,8 +125,8 @@ fn check_output<A: Alphabet>(
     number: usize,
     term: A::Term,
 ) -> Result<(), TableFault>
-    requires { SoundGuard model guard }
-    ensures { result ≡ check_output_lem model guard number term }
+    requires { SoundGuard A.model guard }
+    ensures { result ≡ check_output_lem A.model guard number term }
 {
     at_output(number, A::check_term(term))?;
     if A::suits(term, guard) {
@@ -142,10 +142,10 @@ fn check_outputs<A: Alphabet>(
     from: usize,
     terms: &[A::Term],
 ) -> Result<(), TableFault>
-    requires sound { SoundGuard model guard }
+    requires sound { SoundGuard A.model guard }
     requires low { from ≤ 4294967296 }
     requires few { length terms.now ≤ 65536 }
-    ensures { result ≡ each (check_output_lem model guard) from terms.now }
+    ensures { result ≡ each (check_output_lem A.model guard) from terms.now }
 {
     for (k, term) in terms.iter().enumerate() {
         check_output::<A>(guard, from + k, *term)?;
@@ -159,10 +159,10 @@ fn check_rule_outputs<A: Alphabet>(
     outputs: &[A::Term],
     finals: usize,
 ) -> Result<(), TableFault>
-    requires sound { SoundGuards model rules.now }
+    requires sound { SoundGuards A.model rules.now }
     requires count { length outputs.now ≡ finals + rule_total_of rules.now }
     requires few { length outputs.now ≤ 4096 }
-    ensures { result ≡ check_rule_outputs_lem model finals rules.now (drop finals outputs.now) }
+    ensures { result ≡ check_rule_outputs_lem A.model finals rules.now (drop finals outputs.now) }
 {
     let mut from = finals;
     for rule in rules {
@@ -174,16 +174,16 @@ fn check_rule_outputs<A: Alphabet>(
 }
 
 fn do_clash<A: Alphabet>(earlier: Rule<A::Guard>, later: Rule<A::Guard>) -> bool
-    requires earlier { SoundGuard model earlier.guard }
-    requires later { SoundGuard model later.guard }
-    ensures { result ≡ clash model later earlier }
+    requires earlier { SoundGuard A.model earlier.guard }
+    requires later { SoundGuard A.model later.guard }
+    ensures { result ≡ clash A.model later earlier }
 {
     earlier.state == later.state && least_shared::<A>(earlier.guard, later.guard).is_some()
 }
 
 fn check_overlaps<A: Alphabet>(rules: &[Rule<A::Guard>]) -> Result<(), TableFault>
-    requires { SoundGuards model rules.now }
-    ensures { result ≡ check_overlaps_lem model 0 [] rules.now }
+    requires { SoundGuards A.model rules.now }
+    ensures { result ≡ check_overlaps_lem A.model 0 [] rules.now }
 {
     let mut found = Ok(());
     'pairs: for later in 0..rules.len() {
@@ -200,8 +200,8 @@ fn check_overlaps<A: Alphabet>(rules: &[Rule<A::Guard>]) -> Result<(), TableFaul
 impl<'a, A: Alphabet> Draft<'a, A> {
     // Whether the table is sound, else its first fault.
     pub fn check(&self) -> Result<(), TableFault>
-        ensures first { result ≡ checked model (table_of self.now) }
-        ensures sound { (result ≡ Ok tt → Sound model (table_of self.now)) × (Sound model (table_of self.now) → result ≡ Ok tt) }
+        ensures first { result ≡ checked A.model (table_of self.now) }
+        ensures sound { (result ≡ Ok tt → Sound A.model (table_of self.now)) × (Sound A.model (table_of self.now) → result ≡ Ok tt) }
     {
         check_limits(self.states.len(), self.rules.len(), self.outputs.len())?;
         check_states(self.states)?;

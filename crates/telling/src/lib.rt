@@ -25,9 +25,9 @@ pub fn distinguish<A: Alphabet>(
     symbols: &mut [u32],
     witness: &mut [u32],
 ) -> Result<Comparison, Fault>
-    requires left { Sound model (table_of left.now) }
-    requires right { Sound model (table_of right.now) }
-    ensures { Compared model (scratch_of (length steps.old) (length symbols.old)) (table_of left.now) (table_of right.now) number witness.old result witness.new }
+    requires left { Sound A.model (table_of left.now) }
+    requires right { Sound A.model (table_of right.now) }
+    ensures { Compared A.model (scratch_of (length steps.old) (length symbols.old)) (table_of left.now) (table_of right.now) number witness.old result witness.new }
 {
     if is_short(left, right, steps.len(), symbols.len()) {
         return Err(Fault::ShortScratch(number));

@@ -37,17 +37,17 @@ fn extension<A: Alphabet>(
     number: usize,
     symbol: u32,
 ) -> Step
-    requires left { Sound model (table_of left.now) }
-    requires right { Sound model (table_of right.now) }
+    requires left { Sound A.model (table_of left.now) }
+    requires right { Sound A.model (table_of right.now) }
     requires framed { Framed (table_of left.now) (table_of right.now) frame }
-    requires tracks { Tracks model (table_of left.now) (table_of right.now) steps.now }
+    requires tracks { Tracks A.model (table_of left.now) (table_of right.now) steps.now }
     requires within { number < length steps.now }
     requires few { length steps.now ≤ steps_needed_lem frame.left frame.right }
     requires lefts { (step_at steps.now number).left.total ≤ number * frame.width }
     requires rights { (step_at steps.now number).right.total ≤ number * frame.width }
     ensures parent { result.parent ≡ number }
     ensures symbol { result.symbol ≡ symbol }
-    ensures extends { Extends model (table_of left.now) (table_of right.now) frame.left frame.right frame.width steps.now result }
+    ensures extends { Extends A.model (table_of left.now) (table_of right.now) frame.left frame.right frame.width steps.now result }
 {
     let step = steps[number];
     Step {
@@ -70,14 +70,14 @@ pub fn attempt<A: Alphabet>(
     symbol: u32,
     outputs: &mut [u32],
 )
-    requires left { Sound model (table_of left.now) }
-    requires right { Sound model (table_of right.now) }
+    requires left { Sound A.model (table_of left.now) }
+    requires right { Sound A.model (table_of right.now) }
     requires framed { Framed (table_of left.now) (table_of right.now) frame }
     requires slots { steps_needed_lem frame.left frame.right ≤ slots_of queue.old }
     requires cells { steps_needed_lem frame.left frame.right ≤ length cells.old }
     requires room { 4 * frame.room ≤ length outputs.old }
-    requires going { Going model (table_of left.now) (table_of right.now) frame.left frame.right frame.width (entries_of queue.old) cells.old number symbol }
-    ensures going { Going model (table_of left.now) (table_of right.now) frame.left frame.right frame.width (entries_of queue.new) cells.new number (symbol + 1) }
+    requires going { Going A.model (table_of left.now) (table_of right.now) frame.left frame.right frame.width (entries_of queue.old) cells.old number symbol }
+    ensures going { Going A.model (table_of left.now) (table_of right.now) frame.left frame.right frame.width (entries_of queue.new) cells.new number (symbol + 1) }
     ensures step { step_at (entries_of queue.new) number ≡ step_at (entries_of queue.old) number }
     ensures taken { queue.new.taken ≡ queue.old.taken }
     ensures slots { slots_of queue.new ≡ slots_of queue.old }
@@ -112,15 +112,15 @@ pub fn expand<A: Alphabet>(
     step: Step,
     outputs: &mut [u32],
 )
-    requires left { Sound model (table_of left.now) }
-    requires right { Sound model (table_of right.now) }
+    requires left { Sound A.model (table_of left.now) }
+    requires right { Sound A.model (table_of right.now) }
     requires framed { Framed (table_of left.now) (table_of right.now) frame }
     requires slots { steps_needed_lem frame.left frame.right ≤ slots_of queue.old }
     requires cells { steps_needed_lem frame.left frame.right ≤ length cells.old }
     requires room { 4 * frame.room ≤ length outputs.old }
     requires step { step ≡ step_at (entries_of queue.old) number }
-    requires going { Going model (table_of left.now) (table_of right.now) frame.left frame.right frame.width (entries_of queue.old) cells.old number 0 }
-    ensures turned { Turned model (table_of left.now) (table_of right.now) frame.left frame.right frame.width (entries_of queue.new) cells.new (number + 1) }
+    requires going { Going A.model (table_of left.now) (table_of right.now) frame.left frame.right frame.width (entries_of queue.old) cells.old number 0 }
+    ensures turned { Turned A.model (table_of left.now) (table_of right.now) frame.left frame.right frame.width (entries_of queue.new) cells.new (number + 1) }
     ensures taken { queue.new.taken ≡ queue.old.taken }
     ensures slots { slots_of queue.new ≡ slots_of queue.old }
 {
