@@ -10,19 +10,19 @@ use Rattle.table.proofs.check.check_states.Goals as goal
 abbrev blank : State
 blank = record { mark = 0; finals = 0 }
 
-pub returns-in-err-check-state : goal.returns-in-err-check-state
-returns-in-err-check-state c =
+pub returns-in_err-check_state : goal.returns-in_err-check_state
+returns-in_err-check_state c =
     let f = check_state_lem in
     let xs = c.args.states.now in
-    let p = err_from_is_err_and c.from-residual.result c.from-residual.ensures.1 in
-    let e = sym c.check-state.ensures ∙ c.in-err-check-state.was in
+    let p = err_from_is_err_and c.from_residual.result c.from_residual.ensures.1 in
+    let e = sym c.check_state.ensures ∙ c.in_err-check_state.was in
     p.1 ∙ ap Err p.2 ∙ sym (each_stops f c.loop-number.number xs c.loop-number.number blank (get_or xs c.loop-number.number blank) c.loop-number-test.true refl _ e) ∙ c.loop-number.invariant
 
 pub loop-number-preserved : goal.loop-number-preserved
 loop-number-preserved c =
     let f = check_state_lem in
     let xs = c.args.states.now in
-    sym (each_goes_on f c.loop-number.number xs c.loop-number.number blank (get_or xs c.loop-number.number blank) c.loop-number-test.true refl (sym c.check-state.ensures ∙ c.in-ok-check-state.was)) ∙ c.loop-number.invariant
+    sym (each_goes_on f c.loop-number.number xs c.loop-number.number blank (get_or xs c.loop-number.number blank) c.loop-number-test.true refl (sym c.check_state.ensures ∙ c.in_ok-check_state.was)) ∙ c.loop-number.invariant
 
 pub returns : goal.returns
 returns c =
