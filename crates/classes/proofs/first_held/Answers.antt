@@ -5,8 +5,8 @@ use Rattle.classes.proofs.Ends.{held_more, held_other, held_all}
 use Rattle.classes.proofs.first_held.Goals as goal
 use Rattle.classes.proofs.first_held.Goals.{then-rule-state, else-rule-state}
 
-pub first-inside-requires : goal.first-inside-requires
-first-inside-requires g c =
+pub first_inside-requires : goal.first_inside-requires
+first_inside-requires g c =
     let rules = c.args.draft.now.rules.now in
     record { sound = c.requires.sound.guard c.loop-rule.rule-index c.rule-item.result (slice_get_read rules _ c.loop-rule.rule-index c.rule-item.result refl c.loop-rule-test.true c.rule-item.is) }
 
@@ -15,7 +15,7 @@ loop-rule-preserved g c =
     let m = g.A.Alphabet.model in
     let rules = c.args.draft.now.rules.now in
     elim c.if-rule-state.branch [
-      | then-rule-state w ↦ rw (w.first-is, w.lower-first.ensures) (held_more m c.in-Some.state c.args.from rules c.loop-rule.rule-index c.rule-item.result c.loop-rule-test.true c.rule-item.is c.loop-rule.first c.loop-rule.invariant w.if-rule-state.true w.first-inside.result w.first-inside.ensures)
+      | then-rule-state w ↦ rw (w.first-is, w.lower-first.ensures) (held_more m c.in-Some.state c.args.from rules c.loop-rule.rule-index c.rule-item.result c.loop-rule-test.true c.rule-item.is c.loop-rule.first c.loop-rule.invariant w.if-rule-state.true w.first_inside.result w.first_inside.ensures)
       | else-rule-state w ↦ rw w.first-is (held_other m c.in-Some.state c.args.from rules c.loop-rule.rule-index c.rule-item.result c.loop-rule-test.true c.rule-item.is c.loop-rule.first c.loop-rule.invariant w.if-rule-state.false)
     ]
 

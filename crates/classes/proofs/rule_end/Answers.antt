@@ -3,23 +3,23 @@ use Rattle.table.specs.Table.{table_of}
 use Rattle.classes.proofs.Ends.{begins, end_within, end_sound, ends}
 use Rattle.classes.proofs.rule_end.Goals as goal
 
-pub offset-bounds-draft-rule : goal.offset-bounds-draft-rule
-offset-bounds-draft-rule g c =
+pub offset_bounds-draft-rule : goal.offset_bounds-draft-rule
+offset_bounds-draft-rule g c =
     let within : c.in-Some.rule < length c.args.draft.now.rules.now = end_within g.A.Alphabet.model (table_of c.args.draft.now) c.args.state c.args.symbol c.requires.sound c.in-Some.rule c.in-Some.ensures in
     search rules
 
 pub bounds-draft-rule : goal.bounds-draft-rule
 bounds-draft-rule g c = end_within g.A.Alphabet.model (table_of c.args.draft.now) c.args.state c.args.symbol c.requires.sound c.in-Some.rule c.in-Some.ensures
 
-pub first-outside-requires : goal.first-outside-requires
-first-outside-requires g c =
+pub first_outside-requires : goal.first_outside-requires
+first_outside-requires g c =
     let sound = end_sound g.A.Alphabet.model (table_of c.args.draft.now) c.args.state c.args.symbol c.requires.sound c.in-Some.rule c.in-Some.ensures c.index-draft-rule.result c.index-draft-rule.is in
     record { sound = rw (sym c.index-draft-rule.is) sound }
 
 pub returns-in-Some : goal.returns-in-Some
 returns-in-Some g c =
-    ends g.A.Alphabet.model (table_of c.args.draft.now) c.args.state c.args.symbol c.requires.sound c.in-Some.rule c.in-Some.ensures c.index-draft-rule.result c.index-draft-rule.is c.first-outside.result (rw (sym c.index-draft-rule.is) at c.first-outside.ensures)
+    ends g.A.Alphabet.model (table_of c.args.draft.now) c.args.state c.args.symbol c.requires.sound c.in-Some.rule c.in-Some.ensures c.index-draft-rule.result c.index-draft-rule.is c.first_outside.result (rw (sym c.index-draft-rule.is) at c.first_outside.ensures)
 
 pub returns-in-None : goal.returns-in-None
 returns-in-None g c =
-    begins g.A.Alphabet.model (table_of c.args.draft.now) c.args.state c.args.symbol c.in-None.ensures c.first-held.result c.first-held.ensures
+    begins g.A.Alphabet.model (table_of c.args.draft.now) c.args.state c.args.symbol c.in-None.ensures c.first_held.result c.first_held.ensures

@@ -7,30 +7,30 @@ use Rattle.filter.specs.Promises.{after_check}
 use Rattle.filter.proofs.Promises.{transduces, agrees_if_checked}
 use Rattle.filter.proofs.transducing.transduce.Goals as goal
 
-pub returns-in-err-check : goal.returns-in-err-check
-returns-in-err-check g c =
+pub returns-in_err-check : goal.returns-in_err-check
+returns-in_err-check g c =
     let m = g.A.Alphabet.model in
     let F = table_of c.args.draft.now in
-    let p = err_from_is_err_and c.from-residual.result c.from-residual.ensures.1 in
-    let fault = sym c.check.ensures.first ∙ c.in-err-check.was in
+    let p = err_from_is_err_and c.from_residual.result c.from_residual.ensures.1 in
+    let fault = sym c.check.ensures.first ∙ c.in_err-check.was in
     let answer = p.1 ∙ ap Err p.2 ∙ ap (λ k. after_check k (answer_for (machine_of m F) c.args.text.now (length c.args.out.now))) (sym fault) in
     let output = ap (λ r. output_after r (ended (machine_of m F) c.args.text.now) c.args.out.now) (sym p.1) in
     record {
       answer = answer;
       output = output;
       agrees = agrees_if_checked m F g.A.Alphabet.laws;
-      means = transduces m F g.A.Alphabet.laws c.args.text.now c.args.out.now c.args.out.now c.from-residual.result answer output;
+      means = transduces m F g.A.Alphabet.laws c.args.text.now c.args.out.now c.args.out.now c.from_residual.result answer output;
     }
 
 pub returns : goal.returns
 returns g c =
     let m = g.A.Alphabet.model in
     let F = table_of c.args.draft.now in
-    let sound = sym c.check.ensures.first ∙ c.in-ok-check.was in
-    let answer = c.transduce-sound.ensures.answer ∙ ap (λ k. after_check k (answer_for (machine_of m F) c.args.text.now (length c.args.out.now))) (sym sound) in
+    let sound = sym c.check.ensures.first ∙ c.in_ok-check.was in
+    let answer = c.transduce_sound.ensures.answer ∙ ap (λ k. after_check k (answer_for (machine_of m F) c.args.text.now (length c.args.out.now))) (sym sound) in
     record {
       answer = answer;
-      output = c.transduce-sound.ensures.output;
+      output = c.transduce_sound.ensures.output;
       agrees = agrees_if_checked m F g.A.Alphabet.laws;
-      means = transduces m F g.A.Alphabet.laws c.args.text.now c.args.out.now c.transduce-sound.new.out c.transduce-sound.result answer c.transduce-sound.ensures.output;
+      means = transduces m F g.A.Alphabet.laws c.args.text.now c.args.out.now c.transduce_sound.new.out c.transduce_sound.result answer c.transduce_sound.ensures.output;
     }

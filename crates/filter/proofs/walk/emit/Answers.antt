@@ -6,7 +6,7 @@ use Rattle.filter.specs.Machines.{values_of}
 use Rattle.filter.specs.Outcomes.{put}
 use Rattle.filter.proofs.Emits.{values_more}
 use Rattle.filter.proofs.walk.emit.Goals as goal
-use Rattle.filter.proofs.walk.emit.Goals.{in-Some, in-default}
+use Rattle.filter.proofs.walk.emit.Goals.{in-Some, in_default}
 
 pub value-requires : goal.value-requires
 value-requires g c = record {
@@ -26,8 +26,8 @@ loop-term-preserved g c =
           let step : put (place + 1) rest (set out place w.in-Some.value) ≡ put c.args.at (values_of m c.args.terms.now c.args.symbol) c.args.out.now =
           ap (λ vs. put place vs out) (sym e) ∙ c.loop-term.invariant.2 in
           (omega arith, omega (arith, ap length e), cc)
-      | in-default w ↦
-          let e = more None (sym c.value.ensures ∙ w.in-default.is) in
+      | in_default w ↦
+          let e = more None (sym c.value.ensures ∙ w.in_default.is) in
           let step : put place rest out ≡ put c.args.at (values_of m c.args.terms.now c.args.symbol) c.args.out.now =
           ap (λ vs. put place vs out) (sym e) ∙ c.loop-term.invariant.2 in
           (omega arith, omega (arith, ap length e), cc)

@@ -26,21 +26,21 @@ returns-then-entry-ne1 g c =
     let e = final_rejects g.A.Alphabet.model F q (entry F.states q) (slice_get-get_or F.states q _ c.if-state-draft.false) c.if-entry-ne1.true in
     record { answer = ap (behind c.args.at) (sym e); output = ap (λ o. finished c.args.at o c.args.out.now) (sym e) }
 
-pub offset-bounds-draft-from : goal.offset-bounds-draft-from
-offset-bounds-draft-from g c =
+pub offset_bounds-draft-from : goal.offset_bounds-draft-from
+offset_bounds-draft-from g c =
     let F = table_of c.args.draft.now in
     let q = c.args.state in
     let is = slice_get-get_or F.states q (record { mark = 0; finals = 0 }) c.if-state-draft.false in
     let m = g.A.Alphabet.model in
     omega (arith, final_within m F q (entry F.states q) is c.requires.sound, before m F q (entry F.states q) is)
 
-pub slice-bounds-emit-end : goal.slice-bounds-emit-end
-slice-bounds-emit-end g c =
+pub slice_bounds-emit-end : goal.slice_bounds-emit-end
+slice_bounds-emit-end g c =
     let F = table_of c.args.draft.now in
     let q = c.args.state in
     let is = slice_get-get_or F.states q (record { mark = 0; finals = 0 }) c.if-state-draft.false in
     let m = g.A.Alphabet.model in
-    let end : c.final-total-from.result + (entry F.states q).finals ≤ length F.outputs = omega (arith, final_within m F q (entry F.states q) is c.requires.sound, before m F q (entry F.states q) is) in
+    let end : c.final_total-from.result + (entry F.states q).finals ≤ length F.outputs = omega (arith, final_within m F q (entry F.states q) is c.requires.sound, before m F q (entry F.states q) is) in
     search rules
 
 pub emit-requires : goal.emit-requires
@@ -50,7 +50,7 @@ emit-requires g c =
     let is = slice_get-get_or F.states q (record { mark = 0; finals = 0 }) c.if-state-draft.false in
     let m = g.A.Alphabet.model in
     record {
-      sound = subst (AllByRecursion (SoundTerm m)) (sym (part_at m F q (entry F.states q) is c.final-total-from.result c.final-total-from.ensures.total)) (final_sound m F q (entry F.states q) is c.requires.sound);
+      sound = subst (AllByRecursion (SoundTerm m)) (sym (part_at m F q (entry F.states q) is c.final_total-from.result c.final_total-from.ensures.total)) (final_sound m F q (entry F.states q) is c.requires.sound);
       fits = simp length-take (omega (arith, c.requires.sound.short_final q (entry F.states q) is));
     }
 
@@ -60,7 +60,7 @@ returns g c =
     let q = c.args.state in
     let is = slice_get-get_or F.states q (record { mark = 0; finals = 0 }) c.if-state-draft.false in
     let m = g.A.Alphabet.model in
-    let part = part_at m F q (entry F.states q) is c.final-total-from.result c.final-total-from.ensures.total in
+    let part = part_at m F q (entry F.states q) is c.final_total-from.result c.final_total-from.ensures.total in
     let e = final_accepts m F q (entry F.states q) is c.if-entry-ne1.false in
     let v = ap (λ l. values_of m l 0) part in
     record {

@@ -13,11 +13,11 @@ pub loop-position-init : goal.loop-position-init
 loop-position-init g c =
     ([], along_start (machine_of g.A.Alphabet.model (table_of c.args.draft.now)) c.args.text.now c.args.start, refl, omega arith, refl)
 
-pub returns-in-default : goal.returns-in-default
-returns-in-default g c =
+pub returns-in_default : goal.returns-in_default
+returns-in_default g c =
     let M = machine_of g.A.Alphabet.model (table_of c.args.draft.now) in
     let I = c.loop-position.invariant in
-    let stuck = along_stuck M c.args.text.now c.args.start c.loop-position.position c.loop-position.state I.0 I.1 c.loop-position-test.true c.in-default.ensures.leads in
+    let stuck = along_stuck M c.args.text.now c.args.start c.loop-position.position c.loop-position.state I.0 I.1 c.loop-position-test.true c.in_default.ensures.leads in
     record {
       answer = ap Err (sym stuck.1) ∙ ap (end_of (position M c.args.text.now c.args.start)) (sym stuck.0);
       bound = tt;

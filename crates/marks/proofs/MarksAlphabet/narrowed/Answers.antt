@@ -12,7 +12,7 @@ pub loop-mark-preserved : goal.loop-mark-preserved
 loop-mark-preserved c =
     let n = c.loop-mark.mark in
     let p = goes_into_lem c.args.guard c.args.term c.args.into in
-    elim c.if-goes-into.branch [
-      | then-goes-into w ↦ bits_with n c.loop-mark.bits c.if-goes-into.bits p c.loop-mark-test.true c.loop-mark.invariant w.if-goes-into.ensures w.bits-is
-      | else-goes-into w ↦ bits_without n c.loop-mark.bits c.if-goes-into.bits p c.loop-mark.invariant w.if-goes-into.ensures w.bits-is
+    elim c.if-goes_into.branch [
+      | then-goes-into w ↦ bits_with n c.loop-mark.bits c.if-goes_into.bits p c.loop-mark-test.true c.loop-mark.invariant w.if-goes_into.ensures w.bits-is
+      | else-goes-into w ↦ bits_without n c.loop-mark.bits c.if-goes_into.bits p c.loop-mark.invariant w.if-goes_into.ensures w.bits-is
     ]

@@ -3,11 +3,11 @@ use Rattle.steps.specs.Steps.{at, text}
 use Rattle.steps.proofs.Texts.{text_zero, text_length_more, text_filled}
 use Rattle.steps.proofs.text.fill_text.Goals as goal
 
-pub overflow-sub-left : goal.overflow-sub-left
-overflow-sub-left c = omega (arith, text_length_more c.args.steps.now c.loop-at.at c.loop-at-test.true c.loop-at.invariant.0)
+pub overflow_sub-left : goal.overflow_sub-left
+overflow_sub-left c = omega (arith, text_length_more c.args.steps.now c.loop-at.at c.loop-at-test.true c.loop-at.invariant.0)
 
-pub offset-bounds-witness-left : goal.offset-bounds-witness-left
-offset-bounds-witness-left c = let k : c.loop-at.left - 1 ≤ length c.loop-at.witness = omega arith in search rules
+pub offset_bounds-witness-left : goal.offset_bounds-witness-left
+offset_bounds-witness-left c = let k : c.loop-at.left - 1 ≤ length c.loop-at.witness = omega arith in search rules
 
 pub bounds-witness-left : goal.bounds-witness-left
 bounds-witness-left c =
@@ -19,8 +19,8 @@ loop-at-preserved c =
     let i = c.loop-at.at in
     let j = c.loop-at.left - 1 in
     let more = text_length_more L i c.loop-at-test.true c.loop-at.invariant.0 in
-    let up = c.step-above-at.ensures.answer in
-    let lower = c.step-above-at.ensures.earlier c.loop-at-test.true in
+    let up = c.step_above-at.ensures.answer in
+    let lower = c.step_above-at.ensures.earlier c.loop-at-test.true in
     let back : j + 1 ≡ c.loop-at.left = omega arith in
     let filled = text_filled L i j c.loop-at.witness (text L c.args.step ++ drop c.args.count c.args.witness.now) c.loop-at-test.true c.loop-at.invariant.0 (omega arith) (omega arith) (rw back c.loop-at.invariant.3) in
     (omega arith, omega (arith, ap (λ k. length (text L k)) up), omega arith, filled ∙ ap (λ k. text L k ++ drop j (set c.loop-at.witness j (at L i).symbol)) (sym up))
