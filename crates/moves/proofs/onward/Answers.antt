@@ -7,19 +7,19 @@ use Rattle.moves.specs.Moves.{Moved}
 use Rattle.moves.proofs.Moving.{moved_dead, moved_live}
 use Rattle.moves.proofs.onward.Goals as goal
 
-pub returns-in-default : goal.returns-in-default
-returns-in-default g c =
+pub returns-in_default : goal.returns-in_default
+returns-in_default g c =
     let m = g.A.Alphabet.model in
     let F = table_of c.args.draft.now in
-    subst (λ (y : Side). Moved m F c.args.side c.args.symbol y) (sym c.no-state.ensures)
-    (moved_dead m F c.args.side c.args.symbol (ap (λ o. onward (machine_of m F) o c.args.symbol) c.in-default.is))
+    subst (λ (y : Side). Moved m F c.args.side c.args.symbol y) (sym c.no_state.ensures)
+    (moved_dead m F c.args.side c.args.symbol (ap (λ o. onward (machine_of m F) o c.args.symbol) c.in_default.is))
 
-pub returns-in-default-find : goal.returns-in-default-find
-returns-in-default-find g c =
+pub returns-in_default-find : goal.returns-in_default-find
+returns-in_default-find g c =
     let m = g.A.Alphabet.model in
     let F = table_of c.args.draft.now in
-    subst (λ (y : Side). Moved m F c.args.side c.args.symbol y) (sym c.no-state-in-default-find.ensures)
-    (moved_dead m F c.args.side c.args.symbol (ap (λ o. onward (machine_of m F) o c.args.symbol) c.in-Some.is ∙ ap state_of c.in-default-find.ensures.leads))
+    subst (λ (y : Side). Moved m F c.args.side c.args.symbol y) (sym c.no_state-in_default-find.ensures)
+    (moved_dead m F c.args.side c.args.symbol (ap (λ o. onward (machine_of m F) o c.args.symbol) c.in-Some.is ∙ ap state_of c.in_default-find.ensures.leads))
 
 pub returns : goal.returns
 returns g c =

@@ -4,11 +4,11 @@ use Rattle.steps.proofs.Placing.{product_most}
 use Rattle.judging.proofs.Widths.{longest_few}
 use Rattle.judging.proofs.frame.frame_of.Goals as goal
 
-pub overflow-mul-result : goal.overflow-mul-result
-overflow-mul-result g c =
+pub overflow_mul-result : goal.overflow_mul-result
+overflow_mul-result g c =
     let a = longest_few g.A.Alphabet.model (table_of c.args.left.now) c.requires.left in
     let b = longest_few g.A.Alphabet.model (table_of c.args.right.now) c.requires.right in
-    let few : c.steps-needed.result + 1 ≤ 8321 = omega (arith, c.steps-needed.ensures, product_most (length c.args.left.now.states.now) (length c.args.right.now.states.now) c.requires.left.few_states c.requires.right.few_states) in
+    let few : c.steps_needed.result + 1 ≤ 8321 = omega (arith, c.steps_needed.ensures, product_most (length c.args.left.now.states.now) (length c.args.right.now.states.now) c.requires.left.few_states c.requires.right.few_states) in
     let narrow : c.larger-width.result ≤ 32 = omega arith in
     omega (arith, mul-le-mul few narrow)
 
@@ -20,15 +20,15 @@ returns g c =
       framed = record {
         left = refl;
         right = refl;
-        left_first = c.final-total.ensures.total;
-        right_first = c.final-total-2.ensures.total;
+        left_first = c.final_total.ensures.total;
+        right_first = c.final_total-2.ensures.total;
         few_left = c.requires.left.few_states;
         few_right = c.requires.right.few_states;
         low = omega arith;
         most = omega arith;
         wide_left = omega arith;
         wide_right = omega arith;
-        room = ap (λ n. (n + 1) * c.larger-width.result) c.steps-needed.ensures;
+        room = ap (λ n. (n + 1) * c.larger-width.result) c.steps_needed.ensures;
       };
       width = omega arith;
     }

@@ -23,8 +23,8 @@ find-requires g c =
       within = omega (arith, place_below p q x.left.state x.right.state false (proper_first p q x.left.state x.right.state E.known_left E.known_right c.requires.alive));
     }
 
-pub returns-then-not-both-live : goal.returns-then-not-both-live
-returns-then-not-both-live g c =
+pub returns-then-not-both_live : goal.returns-then-not-both_live
+returns-then-not-both_live g c =
     let m = g.A.Alphabet.model in
     let F = table_of c.args.left.now in
     let H = table_of c.args.right.now in
@@ -35,7 +35,7 @@ returns-then-not-both-live g c =
     judged_half m F H p q c.args.frame.width c.args.steps.now c.args.cells.now x E c.requires.going.kept
     (next_earlier m F H p q c.args.frame.width c.args.steps.now c.args.cells.now x.parent x.symbol c.requires.going)
     c.in-Some.first c.in-Some.ensures.0 (proper_first p q x.left.state x.right.state E.known_left E.known_right c.requires.alive) c.in-Some.ensures.1
-    (sym c.both-live.ensures ∙ c.if-not-both-live.true)
+    (sym c.both_live.ensures ∙ c.if-not-both_live.true)
 
 pub find-requires-2 : goal.find-requires-2
 find-requires-2 g c =
@@ -50,7 +50,7 @@ find-requires-2 g c =
       left = c.requires.framed.few_left;
       right = c.requires.framed.few_right;
       placed = c.requires.going.kept.placed;
-      within = omega (arith, place_below p q x.left.state x.right.state true (proper_again p q x.left.state x.right.state E.known_left E.known_right (sym c.both-live.ensures ∙ c.if-not-both-live.false)));
+      within = omega (arith, place_below p q x.left.state x.right.state true (proper_again p q x.left.state x.right.state E.known_left E.known_right (sym c.both_live.ensures ∙ c.if-not-both_live.false)));
     }
 
 pub returns-in-Some-find : goal.returns-in-Some-find
@@ -65,11 +65,11 @@ returns-in-Some-find g c =
     judged_twice m F H p q c.args.frame.width c.args.steps.now c.args.cells.now x E c.requires.going.kept
     (next_earlier m F H p q c.args.frame.width c.args.steps.now c.args.cells.now x.parent x.symbol c.requires.going)
     c.in-Some-find.field-0 c.in-Some-find.ensures.0
-    (proper_again p q x.left.state x.right.state E.known_left E.known_right (sym c.both-live.ensures ∙ c.if-not-both-live.false))
+    (proper_again p q x.left.state x.right.state E.known_left E.known_right (sym c.both_live.ensures ∙ c.if-not-both_live.false))
     (proper_first p q x.left.state x.right.state E.known_left E.known_right c.requires.alive) c.in-Some-find.ensures.1
 
-pub lags-alike-requires : goal.lags-alike-requires
-lags-alike-requires g c =
+pub lags_alike-requires : goal.lags_alike-requires
+lags_alike-requires g c =
     let m = g.A.Alphabet.model in
     let F = table_of c.args.left.now in
     let H = table_of c.args.right.now in
@@ -99,8 +99,8 @@ lags-alike-requires g c =
       room = c.requires.room;
     }
 
-pub returns-then-lags-alike : goal.returns-then-lags-alike
-returns-then-lags-alike g c =
+pub returns-then-lags_alike : goal.returns-then-lags_alike
+returns-then-lags_alike g c =
     let m = g.A.Alphabet.model in
     let F = table_of c.args.left.now in
     let H = table_of c.args.right.now in
@@ -111,9 +111,9 @@ returns-then-lags-alike g c =
     judged_same m F H p q c.args.frame.width c.args.steps.now c.args.cells.now x E c.requires.going.kept
     (next_earlier m F H p q c.args.frame.width c.args.steps.now c.args.cells.now x.parent x.symbol c.requires.going)
     c.in-Some.first c.in-Some.ensures.0
-    (proper_again p q x.left.state x.right.state E.known_left E.known_right (sym c.both-live.ensures ∙ c.if-not-both-live.false))
+    (proper_again p q x.left.state x.right.state E.known_left E.known_right (sym c.both_live.ensures ∙ c.if-not-both_live.false))
     (proper_first p q x.left.state x.right.state E.known_left E.known_right c.requires.alive) c.in-Some.ensures.1
-    (c.lags-alike.ensures.0 c.if-lags-alike.true)
+    (c.lags_alike.ensures.0 c.if-lags_alike.true)
 
 pub returns : goal.returns
 returns g c =
@@ -127,7 +127,7 @@ returns g c =
     let w = c.args.frame.width in
     let L = c.args.steps.now in
     let C = c.args.cells.now in (
-      proper_again p q x.left.state x.right.state E.known_left E.known_right (sym c.both-live.ensures ∙ c.if-not-both-live.false),
-      c.in-default-find.ensures,
-      λ _. (c.in-Some.first, c.in-Some.ensures.0, c.in-Some.ensures.1, λ e. both_ways c.lags-alike.result c.if-lags-alike.false (c.lags-alike.ensures.1 (step_lag m F H p q w L C c.requires.going.kept c.in-Some.first c.in-Some.ensures.0 ∙ e ∙ sym (next_lag m F H p q w L C x E)))),
+      proper_again p q x.left.state x.right.state E.known_left E.known_right (sym c.both_live.ensures ∙ c.if-not-both_live.false),
+      c.in_default-find.ensures,
+      λ _. (c.in-Some.first, c.in-Some.ensures.0, c.in-Some.ensures.1, λ e. both_ways c.lags_alike.result c.if-lags_alike.false (c.lags_alike.ensures.1 (step_lag m F H p q w L C c.requires.going.kept c.in-Some.first c.in-Some.ensures.0 ∙ e ∙ sym (next_lag m F H p q w L C x E)))),
     )

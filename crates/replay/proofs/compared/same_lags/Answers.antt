@@ -6,7 +6,7 @@ use Rattle.replay.proofs.compared.same_lags.Goals as goal
 pub returns : goal.returns
 unfolding lag_by
 returns g c =
-    let d = c.same-lag.ensures in
+    let d = c.same_lag.ensures in
     let first = lag_fronts c.output-i.new.out c.output-j.new.out _ _ c.output-i.result c.output-j.result c.output-i.ensures.output c.output-j.ensures.output in
     let second = lag_fronts c.output-k.new.out c.output-l.new.out _ _ c.output-k.result c.output-l.result c.output-k.ensures.output c.output-l.ensures.output in
     (λ t. sym first ∙ d.0 t ∙ second, λ e. d.1 (first ∙ e ∙ sym second))

@@ -8,8 +8,8 @@ use Rattle.replay.specs.Replays.{terms_of, output_by}
 use Rattle.replay.proofs.Outputs.{Playing, sum, lower, playing_more, playing_end}
 use Rattle.replay.proofs.written.output.Goals as goal
 
-pub overflow-sub-place-in-loop-side : goal.overflow-sub-place-in-loop-side
-overflow-sub-place-in-loop-side g c =
+pub overflow_sub-place-in-loop-side : goal.overflow_sub-place-in-loop-side
+overflow_sub-place-in-loop-side g c =
     let y = c.loop-side.invariant.0 in
     let some : 0 < (side_of c.args.hand c.loop-side.at).total = omega (arith, c.loop-side-test.true, ap (λ (s : Side). s.total) y) in
     omega (
@@ -27,7 +27,7 @@ loop-side-smaller g c =
       arith,
       lower g.A.Alphabet.model (table_of c.args.draft.now) c.args.hand c.args.steps.now c.requires.tree c.requires.traced _ _ c.loop-side.at c.loop-side.out c.loop-side.invariant.1 some,
       ap (λ (s : Side). s.total) y,
-      ap (λ (s : Side). s.total) c.side-of-side-in-loop-side.ensures,
+      ap (λ (s : Side). s.total) c.side_of-side-in-loop-side.ensures,
     )
 
 pub loop-side-preserved : goal.loop-side-preserved
@@ -40,14 +40,14 @@ loop-side-preserved g c =
     let y = c.loop-side.invariant.0 in
     let some : 0 < (side_of h x).total = omega (arith, c.loop-side-test.true, ap (λ (s : Side). s.total) y) in
     let whole = output_by m F (text L c.args.step.parent) c.args.step.symbol (side_of h c.args.step) in
-    let more = playing_more m F h L c.requires.tree c.requires.traced whole c.side-of-side.result.total x c.loop-side.out c.loop-side.invariant.1 some ((side_of h x).total - ((side_of h x).to - (side_of h x).from)) refl in
+    let more = playing_more m F h L c.requires.tree c.requires.traced whole c.side_of-side.result.total x c.loop-side.out c.loop-side.invariant.1 some ((side_of h x).total - ((side_of h x).to - (side_of h x).from)) refl in
     let wrote = c.emit.ensures.output ∙ ap (λ (s : Side). put (s.total - (s.to - s.from)) (values_of m (terms_of F.outputs s) x.symbol) c.loop-side.out) y in
-    (c.side-of-side-in-loop-side.ensures, subst (λ (o : List ℕ). Playing m F h L whole c.side-of-side.result.total (at L x.parent) o) (sym wrote) more)
+    (c.side_of-side-in-loop-side.ensures, subst (λ (o : List ℕ). Playing m F h L whole c.side_of-side.result.total (at L x.parent) o) (sym wrote) more)
 
 pub returns : goal.returns
 returns g c =
     let none : (side_of c.args.hand c.loop-side.at).total ≡ 0 = omega (arith, c.loop-side-test.false, ap (λ (s : Side). s.total) c.loop-side.invariant.0) in
     record {
-      count = ap (λ (s : Side). s.total) c.side-of-side.ensures;
+      count = ap (λ (s : Side). s.total) c.side_of-side.ensures;
       output = playing_end g.A.Alphabet.model (table_of c.args.draft.now) c.args.hand c.args.steps.now _ _ c.loop-side.at c.loop-side.out c.loop-side.invariant.1 none;
     }
