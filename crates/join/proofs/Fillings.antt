@@ -58,12 +58,12 @@ module _ {G T : Type 0} (m : Model G T) (fs : List (Option (List ℕ))) (ls : Li
 
   module _ (d : Counts) (R₁ : List (Rule G)) (O₁ : List T) (a : Added zero d ls R R₁ O O₁) where
     long : length O₁ ≡ length O
-    long = ap length a.outputs-are ∙ splice_length 0 (outputs_of_lem ls) O (omega (arith, a.fits.outputs_fit))
+    long = ap length a.outputs_are ∙ splice_length 0 (outputs_of_lem ls) O (omega (arith, a.fits.outputs_fit))
 
     pub fits_finals : Fitting (table_from m fs ls) room R O → Room m d.outputs fs O₁
     fits_finals f = record {
       short = all_unmap (λ (s : State). s.finals ≤ 32) state_of fs f.finals;
-      fits = omega (arith, long, a.output-count, f.outputs_fit, length-append (gathered (constants m) fs) (outputs_of_lem ls));
+      fits = omega (arith, long, a.output_count, f.outputs_fit, length-append (gathered (constants m) fs) (outputs_of_lem ls));
     }
 
     pub all_written : (n total : ℕ) (S S₁ : List State) (O₂ Z : List T) → length fs ≤ room → n ≡ length fs → total ≡ d.outputs + length (gathered (constants m) fs) → S₁ ≡ spliced 0 (map state_of fs) S
@@ -72,8 +72,8 @@ module _ {G T : Type 0} (m : Model G T) (fs : List (Option (List ℕ))) (ls : Li
     all_written n total S S₁ O₂ Z low e t s o r z =
         let X = outputs_of_lem ls in
         let Y = gathered (constants m) fs in
-        let from : d.outputs ≡ length X = omega (arith, a.output-count) in
-        let whole : O₂ ≡ spliced 0 (X ++ Y) O = o ∙ ap (λ i. spliced i Y O₁) a.output-count ∙ ap (spliced (0 + length X) Y) a.outputs-are ∙ splice_more 0 X Y O (omega (arith, a.fits.outputs_fit)) in
+        let from : d.outputs ≡ length X = omega (arith, a.output_count) in
+        let whole : O₂ ≡ spliced 0 (X ++ Y) O = o ∙ ap (λ i. spliced i Y O₁) a.output_count ∙ ap (spliced (0 + length X) Y) a.outputs_are ∙ splice_more 0 X Y O (omega (arith, a.fits.outputs_fit)) in
         record {
           fits = record {
             states = simp length-map low;
@@ -83,10 +83,10 @@ module _ {G T : Type 0} (m : Model G T) (fs : List (Option (List ℕ))) (ls : Li
             pieces = All-map (λ (x : Rule G). x.outputs ≤ 32) rule_of_lem ls a.fits.short;
           };
           state_count = e ∙ sym (length-map fs state_of);
-          rule_count = omega (arith, a.rule-count, length-map ls rule_of_lem);
+          rule_count = omega (arith, a.rule_count, length-map ls rule_of_lem);
           output_count = omega (arith, t, from, length-append Y X);
           states_are = s;
-          rules_are = a.rules-are;
+          rules_are = a.rules_are;
           outputs_are = turned X Y O (omega (arith, r.fits, long, from)) total (omega (arith, t, from)) O₂ Z whole (z ∙ ap (λ i. drop i (take total O₂) ++ take i (take total O₂)) from);
         }
 
@@ -127,12 +127,12 @@ module _ {G T : Type 0} (J : Table G T) (most : ℕ) (S : List State) (R : List 
           rules_fit = omega (arith, f.rules_fit);
           outputs_fit = omega (arith, f.outputs_fit);
         };
-        state_count = w.state-count;
-        rule_count = w.rule-count;
-        output_count = w.output-count;
-        states_are = front_spliced J.states S S' w.states-are;
-        rules_are = re ∙ cut_spliced J.rules R R' k (omega (arith, f.rules_fit)) (omega arith) w.rules-are;
-        outputs_are = oe ∙ cut_spliced J.outputs O O' l (omega (arith, f.outputs_fit)) (omega arith) w.outputs-are;
+        state_count = w.state_count;
+        rule_count = w.rule_count;
+        output_count = w.output_count;
+        states_are = front_spliced J.states S S' w.states_are;
+        rules_are = re ∙ cut_spliced J.rules R R' k (omega (arith, f.rules_fit)) (omega arith) w.rules_are;
+        outputs_are = oe ∙ cut_spliced J.outputs O O' l (omega (arith, f.outputs_fit)) (omega arith) w.outputs_are;
       }
 
   -- what the inner call answers is what the outer one does

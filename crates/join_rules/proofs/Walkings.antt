@@ -93,7 +93,7 @@ module _ {G T : Type 0} where
       X = map rule_of_lem (map (raw_line k []) W)
 
       size : e.rules - d.rules ≡ length (map rule_of_lem (map (raw_line {G = G} {T = T} k []) W))
-      size = omega (arith, a.rule-count, length-map (map (raw_line {G = G} {T = T} k []) W) rule_of_lem)
+      size = omega (arith, a.rule_count, length-map (map (raw_line {G = G} {T = T} k []) W) rule_of_lem)
 
       front : length (take d.rules R) ≡ d.rules
       front = length-take-le d.rules R (omega (arith, a.fits.rules_fit))
@@ -103,7 +103,7 @@ module _ {G T : Type 0} where
       unfolding spliced X
       fresh =
           ap (λ n. take n (drop d.rules R₁)) size
-          ∙ ap (λ l. take (length X) (drop d.rules l)) a.rules-are
+          ∙ ap (λ l. take (length X) (drop d.rules l)) a.rules_are
           ∙ ap (take (length X)) (drop_at (take d.rules R) (X ++ drop (d.rules + length X) R) d.rules front)
           ∙ take_at X (drop (d.rules + length X) R) (length X) refl
 
@@ -116,10 +116,10 @@ module _ {G T : Type 0} where
           outputs_fit = omega (arith, a.fits.outputs_fit, ap length (outputs_aimed W));
           short = shorts W a.fits.short;
         };
-        rule_count = a.rule-count ∙ ap (λ n. d.rules + n) (sym (long_aimed W));
-        output_count = a.output-count ∙ ap (λ l. d.outputs + length l) (outputs_aimed W);
+        rule_count = a.rule_count ∙ ap (λ n. d.rules + n) (sym (long_aimed W));
+        output_count = a.output_count ∙ ap (λ l. d.outputs + length l) (outputs_aimed W);
         rules_are = is ∙ middle;
-        outputs_are = a.outputs-are ∙ ap (λ l. spliced d.outputs l O) (outputs_aimed W);
+        outputs_are = a.outputs_are ∙ ap (λ l. spliced d.outputs l O) (outputs_aimed W);
       }
         where
           shorts : (V : List (Way G T ℕ)) → AllByRecursion (λ (l : Line G T). length l.outputs ≤ 32) (map (raw_line k []) V) → AllByRecursion (λ (l : Line G T). length l.outputs ≤ 32) (map (numbered P k) (map (aimed p) V))
@@ -136,12 +136,12 @@ module _ {G T : Type 0} where
           fit = omega (arith, a.fits.rules_fit, length-map (map (raw_line {G = G} {T = T} k []) W) rule_of_lem)
 
           start : take d.rules R₁ ≡ take d.rules R
-          start = ap (take d.rules) a.rules-are ∙ take_front d.rules (map rule_of_lem (map (raw_line k []) W)) R front
+          start = ap (take d.rules) a.rules_are ∙ take_front d.rules (map rule_of_lem (map (raw_line k []) W)) R front
 
           post : post_of d.rules (e.rules - d.rules) R₁ ≡ drop (d.rules + length (map rule_of_lem (map (raw_line {G = G} {T = T} k []) W))) R
           post =
               ap (λ n. post_of d.rules n R₁) size ∙ post_is d.rules (length (map rule_of_lem (map (raw_line {G = G} {T = T} k []) W))) R₁
-              ∙ ap (drop (d.rules + length (map rule_of_lem (map (raw_line {G = G} {T = T} k []) W)))) a.rules-are ∙ drop_spliced d.rules (map rule_of_lem (map (raw_line k []) W)) R fit
+              ∙ ap (drop (d.rules + length (map rule_of_lem (map (raw_line {G = G} {T = T} k []) W)))) a.rules_are ∙ drop_spliced d.rules (map rule_of_lem (map (raw_line k []) W)) R fit
 
           middle : put_mid d.rules (e.rules - d.rules) R₁ Y ≡ spliced d.rules (map rule_of_lem (map (numbered P k) (map (aimed p) W))) R
           middle =

@@ -52,13 +52,13 @@ module _ {G T : Type 0} where
     -- the two lists as they are being written
     pub rules_mid : Mid c.rules d.rules (map rule_of_lem ls) R R'
     rules_mid = record {
-      ends = a.rule-count ∙ ap (λ n. c.rules + n) (sym (length-map ls rule_of_lem));
-      room = omega (arith, a.rule-count, a.fits.rules_fit);
-      is = a.rules-are;
+      ends = a.rule_count ∙ ap (λ n. c.rules + n) (sym (length-map ls rule_of_lem));
+      room = omega (arith, a.rule_count, a.fits.rules_fit);
+      is = a.rules_are;
     }
 
     pub outputs_mid : Mid c.outputs d.outputs (outputs_of_lem ls) O O'
-    outputs_mid = record { ends = a.output-count; room = omega (arith, a.output-count, a.fits.outputs_fit); is = a.outputs-are }
+    outputs_mid = record { ends = a.output_count; room = omega (arith, a.output_count, a.fits.outputs_fit); is = a.outputs_are }
 
     pub rules_long : length R' ≡ length R
     rules_long = mid_length c.rules d.rules (map rule_of_lem ls) R R' rules_mid
@@ -73,8 +73,8 @@ module _ {G T : Type 0} where
           let x = rules_long in
           let y = outputs_long in
           record {
-            rules_fit = omega (arith, f.rules_fit, a.rule-count, length-append ls ks);
-            outputs_fit = omega (arith, f.outputs_fit, a.output-count, ap length (outputs_append ls ks), length-append (outputs_of_lem ls) (outputs_of_lem ks));
+            rules_fit = omega (arith, f.rules_fit, a.rule_count, length-append ls ks);
+            outputs_fit = omega (arith, f.outputs_fit, a.output_count, ap length (outputs_append ls ks), length-append (outputs_of_lem ls) (outputs_of_lem ks));
             short = All-append (λ (l : Line G T). length l.outputs ≤ 32) ls ks a.fits.short f.short;
           }
 
@@ -87,8 +87,8 @@ module _ {G T : Type 0} where
           let x = rules_long in
           let y = outputs_long in
           record {
-            rules_fit = omega (arith, f.rules_fit, a.rule-count, length-append ls ks);
-            outputs_fit = omega (arith, f.outputs_fit, a.output-count, ap length (outputs_append ls ks), length-append (outputs_of_lem ls) (outputs_of_lem ks));
+            rules_fit = omega (arith, f.rules_fit, a.rule_count, length-append ls ks);
+            outputs_fit = omega (arith, f.outputs_fit, a.output_count, ap length (outputs_append ls ks), length-append (outputs_of_lem ls) (outputs_of_lem ks));
             short = all_back (λ (l : Line G T). length l.outputs ≤ 32) ls f.short;
           }
 
@@ -106,8 +106,8 @@ module _ {G T : Type 0} where
           }) in
           record {
             fits = fits_more b.fits;
-            rule_count = omega (arith, b.rule_count, a.rule-count, length-append ls ks);
-            output_count = omega (arith, b.output_count, a.output-count, ap length (outputs_append ls ks), length-append (outputs_of_lem ls) (outputs_of_lem ks));
+            rule_count = omega (arith, b.rule_count, a.rule_count, length-append ls ks);
+            output_count = omega (arith, b.output_count, a.output_count, ap length (outputs_append ls ks), length-append (outputs_of_lem ls) (outputs_of_lem ks));
             rules_are = s.is ∙ ap (λ x. spliced c.rules x R) (sym (map-append rule_of_lem ls ks));
             outputs_are = t.is ∙ ap (λ x. spliced c.outputs x O) (sym (outputs_append ls ks));
           }

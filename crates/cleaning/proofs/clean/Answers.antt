@@ -22,16 +22,16 @@ returns g c =
     let m = g.A.Alphabet.model in
     let F = table_of c.args.draft.now in
     let text = c.args.text.now in
-    let before = c.as-mut-slice.result.now in
+    let before = c.as_mut_slice.result.now in
     let after = c.transduce-2.new.out in
     let needed = c.in-ShortOutput.needed in
-    let made = c.in-ok-out.ensures in
-    let len = c.as-mut-slice.ensures.len in
+    let made = c.in_ok-out.ensures in
+    let len = c.as_mut_slice.ensures.len in
     let full : length before ≡ needed = len ∙ made.len in
     let asked = ap Err (sym c.in-ShortOutput.is) ∙ c.in-Err.ensures.answer in
-    let answer = c.in-ok-outcome.ensures.answer ∙ ap (λ n. after_check (checked m F) (answer_for (machine_of m F) text n)) full in
-    let written = then_written (checked m F) (machine_of m F) text needed c.in-ok-outcome.outcome asked answer in
-    let means = subst (λ o. Transduces m F text before after (Ok o)) written.1 c.in-ok-outcome.ensures.means in
+    let answer = c.in_ok-outcome.ensures.answer ∙ ap (λ n. after_check (checked m F) (answer_for (machine_of m F) text n)) full in
+    let written = then_written (checked m F) (machine_of m F) text needed c.in_ok-outcome.outcome asked answer in
+    let means = subst (λ o. Transduces m F text before after (Ok o)) written.1 c.in_ok-outcome.ensures.means in
     let all = subst (λ o. Cleaned m F text o after) (sym written.1) (cleaned_full m F text written.0 needed before after full means) in
-    let same : length after ≡ c.in-ok-out.out.len = c.transduce-2.auto.out ∙ len in
-    subst (Cleaned m F text c.in-ok-outcome.outcome) (sym (take_at after (drop (length after) c.in-ok-out.out.items) c.in-ok-out.out.len same)) all
+    let same : length after ≡ c.in_ok-out.out.len = c.transduce-2.auto.out ∙ len in
+    subst (Cleaned m F text c.in_ok-outcome.outcome) (sym (take_at after (drop (length after) c.in_ok-out.out.items) c.in_ok-out.out.len same)) all

@@ -15,15 +15,15 @@ returns g c =
     let H = table_of c.args.second.now in
     let L = entries c.compare.new.queue in
     let told = subst (λ r. Decided m F H (text_in L r)) c.in-Some.is c.in-Ok.ensures.decides in
-    let w = c.as-mut-slice-3.result.now in
-    let after = c.write-text.new.witness in
-    let n = c.in-Some-write-text.count in
+    let w = c.as_mut_slice-3.result.now in
+    let after = c.write_text.new.witness in
+    let n = c.in-Some-write_text.count in
     let t = text c.entries.result.now c.in-Some.step in
-    let whole : length after ≡ c.in-ok-text.text.len = c.write-text.auto.witness ∙ c.as-mut-slice-3.ensures.len in
+    let whole : length after ≡ c.in_ok-text.text.len = c.write_text.auto.witness ∙ c.as_mut_slice-3.ensures.len in
     let is =
     c.truncate.ensures.items
-    ∙ ap (take n) (take_at after (drop (length after) c.in-ok-text.text.items) c.in-ok-text.text.len whole)
-    ∙ ap (take n) c.write-text.ensures.witness
-    ∙ cut_is t w n c.in-Some-write-text.ensures.answer
+    ∙ ap (take n) (take_at after (drop (length after) c.in_ok-text.text.items) c.in_ok-text.text.len whole)
+    ∙ ap (take n) c.write_text.ensures.witness
+    ∙ cut_is t w n c.in-Some-write_text.ensures.answer
     ∙ ap (λ l. text l c.in-Some.step) c.entries.ensures in
     subst (λ (l : List ℕ). Decided m F H (Some l)) (sym is) told

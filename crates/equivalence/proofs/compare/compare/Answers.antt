@@ -15,11 +15,11 @@ search-requires g c =
     let m = g.A.Alphabet.model in
     let F = table_of c.args.left.now in
     let H = table_of c.args.right.now in
-    let f = c.frame-of-frame.result in
-    let B = c.frame-of-frame.ensures.framed in
+    let f = c.frame_of-frame.result in
+    let B = c.frame_of-frame.ensures.framed in
     let fit = cells_fit (steps_needed_lem f.left f.right) f.width f.room B.low B.room in
-    let C = c.split-at-mut-cells.result.0.now in
-    let front = c.split-at-mut-cells.ensures.front-len in
+    let C = c.split_at_mut-cells.result.0.now in
+    let front = c.split_at_mut-cells.ensures.front_len in
     let some : 0 < length C = omega (arith, front) in
     let first = turned_start m F H f.left f.right f.width C (omega (arith, B.left, c.requires.left.some_state)) (omega (arith, B.right, c.requires.right.some_state)) some in
     let entries-are = subst (λ (l : List Step). Turned m F H f.left f.right f.width l (set C 0 0) 0) (sym c.start.ensures.entries) first in
@@ -28,9 +28,9 @@ search-requires g c =
       left = c.requires.left;
       right = c.requires.right;
       framed = B;
-      slots = omega (arith, c.start.ensures.slots, c.room.ensures, c.steps-needed.ensures, c.if-room-steps-needed.false);
+      slots = omega (arith, c.start.ensures.slots, c.room.ensures, c.steps_needed.ensures, c.if-room-steps_needed.false);
       cells = omega (arith, c.start.auto.cells, front, fit);
-      room = omega (arith, c.split-at-mut-cells.ensures.back_len, c.if-symbols-frame.false);
+      room = omega (arith, c.split_at_mut-cells.ensures.back_len, c.if-symbols-frame.false);
       turned = subst (λ n. Turned m F H f.left f.right f.width (entries c.start.new.queue) c.start.new.cells n) (sym (c.start.ensures.taken ∙ c.requires.taken)) cells_are;
     }
 
@@ -39,13 +39,13 @@ returns g c =
     let m = g.A.Alphabet.model in
     let F = table_of c.args.left.now in
     let H = table_of c.args.right.now in
-    let f = c.frame-of-frame.result in
-    let B = c.frame-of-frame.ensures.framed in
+    let f = c.frame_of-frame.result in
+    let B = c.frame_of-frame.ensures.framed in
     let size : steps_needed_lem f.left f.right ≡ steps_needed_lem (length F.states) (length H.states) = ap (λ p. steps_needed_lem p f.right) B.left ∙ ap (steps_needed_lem (length F.states)) B.right in
-    let room : f.room ≡ room_of F H = B.room ∙ ap (λ n. (n + 1) * f.width) size ∙ ap (λ w. (steps_needed_lem (length F.states) (length H.states) + 1) * w) c.frame-of-frame.ensures.width in
+    let room : f.room ≡ room_of F H = B.room ∙ ap (λ n. (n + 1) * f.width) size ∙ ap (λ w. (steps_needed_lem (length F.states) (length H.states) + 1) * w) c.frame_of-frame.ensures.width in
     record {
       answer = (
-        omega (arith, c.room.ensures, c.steps-needed.ensures, c.if-room-steps-needed.false, size),
+        omega (arith, c.room.ensures, c.steps_needed.ensures, c.if-room-steps_needed.false, size),
         omega (arith, c.if-symbols-frame.false, room),
         c.search.ensures.told,
         subst (λ n. Early n (entries c.search.new.queue) c.search.result) size c.search.ensures.early,

@@ -13,8 +13,8 @@ use Rattle.equivalence.specs.Answers.{Early}
 use Rattle.equivalence.proofs.Searching.{search_done, search_attached, search_left, search_right, search_agreed, search_found, search_early}
 use Rattle.equivalence.proofs.search.search.Goals as goal
 
-pub step-agrees-requires : goal.step-agrees-requires
-step-agrees-requires g c =
+pub step_agrees-requires : goal.step_agrees-requires
+step_agrees-requires g c =
     let m = g.A.Alphabet.model in
     let F = table_of c.args.left.now in
     let H = table_of c.args.right.now in
@@ -37,8 +37,8 @@ step-agrees-requires g c =
       room = omega (arith, c.requires.room, c.loop-number.auto.outputs);
     }
 
-pub returns-then-not-step-agrees : goal.returns-then-not-step-agrees
-returns-then-not-step-agrees g c =
+pub returns-then-not-step_agrees : goal.returns-then-not-step_agrees
+returns-then-not-step_agrees g c =
     let m = g.A.Alphabet.model in
     let F = table_of c.args.left.now in
     let H = table_of c.args.right.now in
@@ -51,7 +51,7 @@ returns-then-not-step-agrees g c =
     let R = subst (λ (l : List Step). Turned m F H f.left f.right f.width l C k) (sym same) at-k in
     let h = subst (λ (l : List Step). k < length l) (sym same) c.in-Some.ensures.answer.1 in
     let is = c.in-Some.ensures.answer.2 blank ∙ ap (λ (l : List Step). at l k) (sym same) in
-    let differ : Agrees m F H L (at L k) → ⊥ = λ e. both_ways c.step-agrees.result c.if-not-step-agrees.true (c.step-agrees.ensures.1 (subst (λ (x : Step). Agrees m F H L x) (sym is) e)) in
+    let differ : Agrees m F H L (at L k) → ⊥ = λ e. both_ways c.step_agrees.result c.if-not-step_agrees.true (c.step_agrees.ensures.1 (subst (λ (x : Step). Agrees m F H L x) (sym is) e)) in
     record {
       told = subst (λ (l : List Step). Told (machine_of m F) (machine_of m H) (Some (text l k))) c.entries.ensures (search_found m F H f c.requires.framed L C k R h differ);
       early = subst (λ (l : List Step). Early (steps_needed_lem f.left f.right) l (Some k)) c.entries.ensures (search_early m F H f c.requires.framed L C k R h);
@@ -71,20 +71,20 @@ expand-requires g c =
     let R = subst (λ (l : List Step). Turned m F H f.left f.right f.width l C k) (sym same) at-k in
     let h = subst (λ (l : List Step). k < length l) (sym same) c.in-Some.ensures.answer.1 in
     let is = c.in-Some.ensures.answer.2 blank ∙ ap (λ (l : List Step). at l k) (sym same) in
-    let alike = subst (λ (x : Step). Agrees m F H L x) is (c.step-agrees.ensures.0 c.if-not-step-agrees.false) in
+    let alike = subst (λ (x : Step). Agrees m F H L x) is (c.step_agrees.ensures.0 c.if-not-step_agrees.false) in
     record {
       left = c.requires.left;
       right = c.requires.right;
       framed = c.requires.framed;
       slots = omega (arith, c.requires.slots, c.loop-number.invariant.1, c.in-Some.ensures.room);
       cells = omega (arith, c.requires.cells, c.loop-number.auto.cells);
-      room = omega (arith, c.requires.room, c.loop-number.auto.outputs, c.step-agrees.auto.outputs);
+      room = omega (arith, c.requires.room, c.loop-number.auto.outputs, c.step_agrees.auto.outputs);
       step = is ∙ ap (λ (l : List Step). at l k) c.entries.ensures;
       going = subst (λ (l : List Step). Going m F H f.left f.right f.width l C k 0) c.entries.ensures (search_agreed m F H f c.requires.framed L C k R h alike);
     }
 
 pub returns : goal.returns
 returns g c = record {
-  told = search_done g.A.Alphabet.model (table_of c.args.left.now) (table_of c.args.right.now) c.args.frame c.requires.framed (entries c.loop-number.queue) c.loop-number.cells c.loop-number.queue.taken c.loop-number.invariant.0 (omega (arith, c.in-default.ensures.answer));
+  told = search_done g.A.Alphabet.model (table_of c.args.left.now) (table_of c.args.right.now) c.args.frame c.requires.framed (entries c.loop-number.queue) c.loop-number.cells c.loop-number.queue.taken c.loop-number.invariant.0 (omega (arith, c.in_default.ensures.answer));
   early = tt;
 }

@@ -41,8 +41,8 @@ loop-rule-init g t c =
     going_start m F c.args.course.now.number (along m (take d ts) (map (within F.outputs) (take d c.args.path.now))) (drop (d + 1) ts) (get_or ts d c.index-course-depth.result) c.args.state c.args.guard
     c.args.counts c.args.rules.now c.args.outputs.now d c.args.path.now c.requires.second c.args.course.now.first c.requires.first c.requires.rules c.requires.outputs
 
-pub overflow-add-start : goal.overflow-add-start
-overflow-add-start g t c =
+pub overflow_add-start : goal.overflow_add-start
+overflow_add-start g t c =
     let e = ends_within _ _ _ _ _ _ _ _ _ _ _ _ _ _ _ _ _ _ _ c.loop-rule.invariant c.rule-item.result c.loop-rule-test.true c.rule-item.is in
     let few = c.requires.second.few_outputs in
     search rules
@@ -54,13 +54,13 @@ narrowed-requires g t c = record {
   into = c.requires.second.guard c.loop-rule.rule-index c.rule-item.result (slice_get_read c.args.course.now.second.now.rules.now _ c.loop-rule.rule-index c.rule-item.result refl c.loop-rule-test.true c.rule-item.is);
 }
 
-pub loop-rule-preserved-in-default : goal.loop-rule-preserved-in-default
-loop-rule-preserved-in-default g t c =
+pub loop-rule-preserved-in_default : goal.loop-rule-preserved-in_default
+loop-rule-preserved-in_default g t c =
     going_skip _ _ _ _ _ _ _ _ _ _ _ _ _ _ _ _ _ _ _ c.loop-rule.invariant c.rule-item.result c.loop-rule-test.true c.rule-item.is
     (by_empty g.A.Alphabet.model _ _ _ _ _ _ (sym c.narrowed.ensures ∙ c.in-default.is))
 
-pub add-ways-requires : goal.add-ways-requires
-add-ways-requires g t c κs inside =
+pub add_ways-requires : goal.add_ways-requires
+add_ways-requires g t c κs inside =
     let m = g.A.Alphabet.model in
     let I = c.loop-rule.invariant in
     let S = c.args.course.now.second.now.outputs.now in
@@ -110,8 +110,8 @@ add-ways-requires g t c κs inside =
       ),
     )
 
-pub returns-in-err-so-far : goal.returns-in-err-so-far
-returns-in-err-so-far g t c =
+pub returns-in_err-so_far : goal.returns-in_err-so_far
+returns-in_err-so_far g t c =
     let m = g.A.Alphabet.model in
     let F = table_of c.args.course.now.second.now in
     let ts = c.args.course.now.terms.now in

@@ -15,35 +15,35 @@ use Rattle.join_ways.proofs.write.write_along.Goals as goal
 pub loop-depth-init : goal.loop-depth-init
 loop-depth-init g c = mid_same _ _ [] _ _ _ (sym (along_none g.A.Alphabet.model [])) (mid_none c.args.at c.args.outputs.now c.requires.at)
 
-pub offset-bounds-second-from : goal.offset-bounds-second-from
-offset-bounds-second-from g c =
+pub offset_bounds-second-from : goal.offset_bounds-second-from
+offset_bounds-second-from g c =
     let h : c.loop-depth.depth < length c.args.path.now = omega arith in
     let k = All-get_or (SoundSpan g.A.Alphabet.model c.args.second.now) c.args.path.now c.loop-depth.depth (record { from = 0; to = 0 }) h c.requires.spans in
     omega (arith, k.0, k.1)
 
-pub slice-bounds-write-followed-count : goal.slice-bounds-write-followed-count
-slice-bounds-write-followed-count g c =
+pub slice_bounds-write_followed-count : goal.slice_bounds-write_followed-count
+slice_bounds-write_followed-count g c =
     let h : c.loop-depth.depth < length c.args.path.now = omega arith in
     let k = All-get_or (SoundSpan g.A.Alphabet.model c.args.second.now) c.args.path.now c.loop-depth.depth (record { from = 0; to = 0 }) h c.requires.spans in
     k.0
 
-pub slice-bounds-write-followed-start : goal.slice-bounds-write-followed-start
-slice-bounds-write-followed-start g c =
+pub slice_bounds-write_followed-start : goal.slice_bounds-write_followed-start
+slice_bounds-write_followed-start g c =
     let h : c.loop-depth.depth < length c.args.path.now = omega arith in
     let k = All-get_or (SoundSpan g.A.Alphabet.model c.args.second.now) c.args.path.now c.loop-depth.depth (record { from = 0; to = 0 }) h c.requires.spans in
     let a = k.0 in
     search rules
 
-pub slice-bounds-write-followed-end : goal.slice-bounds-write-followed-end
-slice-bounds-write-followed-end g c =
+pub slice_bounds-write_followed-end : goal.slice_bounds-write_followed-end
+slice_bounds-write_followed-end g c =
     let h : c.loop-depth.depth < length c.args.path.now = omega arith in
     let k = All-get_or (SoundSpan g.A.Alphabet.model c.args.second.now) c.args.path.now c.loop-depth.depth (record { from = 0; to = 0 }) h c.requires.spans in
     let a = k.0 in
     let b = k.1 in
     search rules
 
-pub write-followed-requires : goal.write-followed-requires
-write-followed-requires g c =
+pub write_followed-requires : goal.write_followed-requires
+write_followed-requires g c =
     let m = g.A.Alphabet.model in
     let h : c.loop-depth.depth < length c.args.path.now = omega arith in
     let k = All-get_or (SoundSpan m c.args.second.now) c.args.path.now c.loop-depth.depth (record { from = 0; to = 0 }) h c.requires.spans in
@@ -54,8 +54,8 @@ write-followed-requires g c =
       at = omega (arith, c.loop-depth.invariant.room);
     }
 
-pub returns-in-err-place : goal.returns-in-err-place
-returns-in-err-place g c =
+pub returns-in_err-place : goal.returns-in_err-place
+returns-in_err-place g c =
     let m = g.A.Alphabet.model in
     let ts = c.args.terms.now in
     let ws = map (within c.args.second.now) c.args.path.now in
@@ -66,8 +66,8 @@ returns-in-err-place g c =
     let long : length ws ≡ length ts = length-map c.args.path.now (within c.args.second.now) ∙ c.requires.path in
     let e = along_more m ts ws d t w long c.loop-depth-test.true c.index-terms-depth.is (get_or-map (within c.args.second.now) c.args.path.now d (record { from = 0; to = 0 }) w h) in
     let same = mid_length _ _ _ _ _ c.loop-depth.invariant in
-    let over = c.in-err-place.ensures in
-    let p = err_from_is_err_and c.from-residual.result c.from-residual.ensures.1 in
+    let over = c.in_err-place.ensures in
+    let p = err_from_is_err_and c.from_residual.result c.from_residual.ensures.1 in
     rw p.1 (omega (arith, over, ap length e, length-append (along m (take d ts) (take d ws)) (followed_by m t w), along_front m ts ws (d + 1) long, c.loop-depth.invariant.ends))
 
 pub loop-depth-preserved : goal.loop-depth-preserved
@@ -81,8 +81,8 @@ loop-depth-preserved g c =
     let h : d < length c.args.path.now = omega arith in
     let long : length ws ≡ length ts = length-map c.args.path.now (within c.args.second.now) ∙ c.requires.path in
     let e = along_more m ts ws d t w long c.loop-depth-test.true c.index-terms-depth.is (get_or-map (within c.args.second.now) c.args.path.now d (record { from = 0; to = 0 }) w h) in
-    let wrote = c.in-ok-place.ensures in
-    let piece : Mid c.loop-depth.place c.in-ok-place.place (followed_by m t w) c.loop-depth.outputs c.write-followed.new.outputs =
+    let wrote = c.in_ok-place.ensures in
+    let piece : Mid c.loop-depth.place c.in_ok-place.place (followed_by m t w) c.loop-depth.outputs c.write_followed.new.outputs =
     record { ends = wrote.0; room = wrote.1; is = wrote.2 } in
     mid_same _ _ _ _ _ _ (sym e) (mid_more _ _ _ _ _ _ _ _ c.loop-depth.invariant piece)
 

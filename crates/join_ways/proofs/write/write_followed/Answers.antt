@@ -16,10 +16,10 @@ followed-requires g c = record {
   second = all_read (SoundTerm g.A.Alphabet.model) c.args.others.now c.loop-other.other-index c.other-item.result c.loop-other-test.true c.other-item.is c.requires.others;
 }
 
-pub loop-other-preserved-in-default : goal.loop-other-preserved-in-default
-loop-other-preserved-in-default g c =
+pub loop-other-preserved-in_default : goal.loop-other-preserved-in_default
+loop-other-preserved-in_default g c =
     let m = g.A.Alphabet.model in
-    let e = followed_more m c.args.term c.args.others.now c.loop-other.other-index c.other-item.result None c.loop-other-test.true c.other-item.is (sym c.followed.ensures ∙ c.in-default.is) in
+    let e = followed_more m c.args.term c.args.others.now c.loop-other.other-index c.other-item.result None c.loop-other-test.true c.other-item.is (sym c.followed.ensures ∙ c.in_default.is) in
     mid_same _ _ _ _ _ _ (sym (e ∙ append-nil _)) c.loop-other.invariant
 
 pub returns-then-place-outputs : goal.returns-then-place-outputs

@@ -35,8 +35,8 @@ extension-next-requires g c =
       rights = subst (λ (l : List Step). (at l k).right.total ≤ k * w) e (D.kept.rights k h);
     }
 
-pub returns-then-both-dead : goal.returns-then-both-dead
-returns-then-both-dead g c =
+pub returns-then-both_dead : goal.returns-then-both_dead
+returns-then-both_dead g c =
     let m = g.A.Alphabet.model in
     let F = table_of c.args.left.now in
     let H = table_of c.args.right.now in
@@ -49,14 +49,14 @@ returns-then-both-dead g c =
     let x = c.extension-next.result in
     let E = subst (λ (l : List Step). Extends m F H p q w l x) c.entries.ensures c.extension-next.ensures.extends in
     record {
-      going = dead_step m F H p q w L C c.args.number c.args.symbol D x c.extension-next.ensures.parent c.extension-next.ensures.symbol E (sym c.both-dead.ensures ∙ c.if-both-dead.true);
+      going = dead_step m F H p q w L C c.args.number c.args.symbol D x c.extension-next.ensures.parent c.extension-next.ensures.symbol E (sym c.both_dead.ensures ∙ c.if-both_dead.true);
       step = refl;
       taken = refl;
       slots = refl;
     }
 
-pub returns-in-default : goal.returns-in-default
-returns-in-default g c =
+pub returns-in_default : goal.returns-in_default
+returns-in_default g c =
     let m = g.A.Alphabet.model in
     let F = table_of c.args.left.now in
     let H = table_of c.args.right.now in
@@ -68,11 +68,11 @@ returns-in-default g c =
     let D = c.requires.going in
     let x = c.extension-next.result in
     let E = subst (λ (l : List Step). Extends m F H p q w l x) c.entries.ensures c.extension-next.ensures.extends in
-    let J = subst (λ (l : List Step). Judged m F H p q w l x None) c.entries-2.ensures c.in-default.ensures in
+    let J = subst (λ (l : List Step). Judged m F H p q w l x None) c.entries-2.ensures c.in_default.ensures in
     record { going = covered_step m F H p q w L C c.args.number c.args.symbol D x c.extension-next.ensures.parent c.extension-next.ensures.symbol E J; step = refl; taken = refl; slots = refl }
 
-pub overflow-cast-cells : goal.overflow-cast-cells
-overflow-cast-cells g c =
+pub overflow_cast-cells : goal.overflow_cast-cells
+overflow_cast-cells g c =
     let m = g.A.Alphabet.model in
     let F = table_of c.args.left.now in
     let H = table_of c.args.right.now in
@@ -89,8 +89,8 @@ overflow-cast-cells g c =
     let n = number_given (length L) (room c.args.queue.now) c.in-Ok.made _ (omega (arith, c.requires.slots)) c.in-Ok.ensures.answer in
     omega (arith, product_most p q c.requires.framed.few_left c.requires.framed.few_right)
 
-pub offset-bounds-cells-place : goal.offset-bounds-cells-place
-offset-bounds-cells-place g c =
+pub offset_bounds-cells-place : goal.offset_bounds-cells-place
+offset_bounds-cells-place g c =
     let m = g.A.Alphabet.model in
     let F = table_of c.args.left.now in
     let H = table_of c.args.right.now in
@@ -104,7 +104,7 @@ offset-bounds-cells-place g c =
     let E = subst (λ (l : List Step). Extends m F H p q w l x) c.entries.ensures c.extension-next.ensures.extends in
     let J = subst (λ (l : List Step). Judged m F H p q w l x (Some c.in-Some.again)) c.entries-2.ensures c.in-Some.ensures in
     let h = place_within m F H p q w L C c.args.number c.args.symbol D x c.extension-next.ensures.parent c.extension-next.ensures.symbol E c.in-Some.again J c.requires.cells in
-    let k : c.place-of-place.result < length C = omega (arith, c.place-of-place.ensures) in search rules
+    let k : c.place_of-place.result < length C = omega (arith, c.place_of-place.ensures) in search rules
 
 pub bounds-cells-place : goal.bounds-cells-place
 bounds-cells-place g c =
@@ -121,7 +121,7 @@ bounds-cells-place g c =
     let E = subst (λ (l : List Step). Extends m F H p q w l x) c.entries.ensures c.extension-next.ensures.extends in
     let J = subst (λ (l : List Step). Judged m F H p q w l x (Some c.in-Some.again)) c.entries-2.ensures c.in-Some.ensures in
     let h = place_within m F H p q w L C c.args.number c.args.symbol D x c.extension-next.ensures.parent c.extension-next.ensures.symbol E c.in-Some.again J c.requires.cells in
-    let k : c.place-of-place.result < length C = omega (arith, c.place-of-place.ensures) in search rules
+    let k : c.place_of-place.result < length C = omega (arith, c.place_of-place.ensures) in search rules
 
 pub returns-in-Ok : goal.returns-in-Ok
 returns-in-Ok g c =
@@ -142,7 +142,7 @@ returns-in-Ok g c =
     let e = sym c.in-Ok.ensures.entries in
     let r = c.in-Ok.ensures in
     let made = made_step m F H p q w L C c.args.number c.args.symbol D x c.extension-next.ensures.parent c.extension-next.ensures.symbol E c.in-Some.again J c.requires.cells in
-    let cells = ap (λ i. set C i (length L)) (sym c.place-of-place.ensures) ∙ ap (set C c.place-of-place.result) (sym n) in
+    let cells = ap (λ i. set C i (length L)) (sym c.place_of-place.ensures) ∙ ap (set C c.place_of-place.result) (sym n) in
     record {
       going = subst (λ (b : List ℕ). Going m F H p q w (entries c.push.new.self) b c.args.number (c.args.symbol + 1)) cells (subst (λ (l : List Step). Going m F H p q w l (set C (place_of p q x.left.state x.right.state c.in-Some.again) (length L)) c.args.number (c.args.symbol + 1)) e made);
       step = ap (λ (l : List Step). at l c.args.number) (sym e) ∙ step_stays m F H p q w L C c.args.number c.args.symbol D x c.extension-next.ensures.parent c.extension-next.ensures.symbol E c.in-Some.again J c.requires.cells;
@@ -150,8 +150,8 @@ returns-in-Ok g c =
       slots = r.room;
     }
 
-pub returns-in-default-push : goal.returns-in-default-push
-returns-in-default-push g c =
+pub returns-in_default-push : goal.returns-in_default-push
+returns-in_default-push g c =
     let m = g.A.Alphabet.model in
     let F = table_of c.args.left.now in
     let H = table_of c.args.right.now in
@@ -165,4 +165,4 @@ returns-in-default-push g c =
     let E = subst (λ (l : List Step). Extends m F H p q w l x) c.entries.ensures c.extension-next.ensures.extends in
     let J = subst (λ (l : List Step). Judged m F H p q w l x (Some c.in-Some.again)) c.entries-2.ensures c.in-Some.ensures in
     let h = slot_left m F H p q w L C c.args.number c.args.symbol D x c.extension-next.ensures.parent c.extension-next.ensures.symbol E c.in-Some.again J c.requires.cells in
-    absurd (number_refused (length L) (room c.args.queue.now) c.in-default-push.field-0 _ (omega (arith, c.requires.slots)) c.in-default-push.ensures.answer)
+    absurd (number_refused (length L) (room c.args.queue.now) c.in_default-push.field-0 _ (omega (arith, c.requires.slots)) c.in_default-push.ensures.answer)

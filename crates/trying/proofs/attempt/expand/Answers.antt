@@ -19,8 +19,8 @@ attempt-requires g c = record {
       c.args.step c.loop-symbol.invariant.1 c.in-Some.symbol c.in-Some.ensures.guided;
 }
 
-pub overflow-add-from : goal.overflow-add-from
-overflow-add-from g c = omega (arith, c.in-Some.ensures.bound)
+pub overflow_add-from : goal.overflow_add-from
+overflow_add-from g c = omega (arith, c.in-Some.ensures.bound)
 
 pub loop-symbol-preserved : goal.loop-symbol-preserved
 loop-symbol-preserved g c =
@@ -30,7 +30,7 @@ loop-symbol-preserved g c =
 pub returns : goal.returns
 returns g c = record {
   turned = going_end g.A.Alphabet.model (table_of c.args.left.now) (table_of c.args.right.now) c.args.frame.left c.args.frame.right c.args.frame.width (entries c.loop-symbol.queue) c.loop-symbol.cells c.args.number c.loop-symbol.from c.loop-symbol.invariant.0
-      c.args.step c.loop-symbol.invariant.1 c.in-default.ensures.guided;
+      c.args.step c.loop-symbol.invariant.1 c.in_default.ensures.guided;
   taken = c.loop-symbol.invariant.2;
   slots = c.loop-symbol.invariant.3;
 }

@@ -4,8 +4,8 @@ use Rattle.steps.specs.Places.{steps_needed_lem}
 use Rattle.trying.proofs.Extending.{number_small, total_small, extends_made}
 use Rattle.trying.proofs.attempt.extension.Goals as goal
 
-pub overflow-cast-result : goal.overflow-cast-result
-overflow-cast-result g c = omega (arith, number_small (table_of c.args.left.now) (table_of c.args.right.now) c.args.frame c.requires.framed c.args.number (omega arith))
+pub overflow_cast-result : goal.overflow_cast-result
+overflow_cast-result g c = omega (arith, number_small (table_of c.args.left.now) (table_of c.args.right.now) c.args.frame c.requires.framed c.args.number (omega arith))
 
 pub onward-requires : goal.onward-requires
 onward-requires g c =
