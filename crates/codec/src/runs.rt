@@ -8,8 +8,8 @@ use crate::Record;
 // Writes the records that bytes mean over a list from a place on.
 pub fn fill<R: Record>(list: &mut [R], from: usize, count: usize, bytes: &[u8])
     requires room { from + count ≤ length list.old }
-    requires whole { length bytes.now ≡ count * code.width }
-    ensures { list.new ≡ over list.old from (records code count bytes.now) }
+    requires whole { length bytes.now ≡ count * R.code.width }
+    ensures { list.new ≡ over list.old from (records R.code count bytes.now) }
 {
     let width = R::width();
     let mut at = 0;
@@ -21,9 +21,9 @@ pub fn fill<R: Record>(list: &mut [R], from: usize, count: usize, bytes: &[u8])
 
 // Writes the bytes of records over others from a place on, and answers the place behind them.
 pub fn put<R: Record>(out: &mut [u8], from: usize, list: &[R]) -> usize
-    requires room { from + length list.now * code.width ≤ length out.old }
-    ensures end { result ≡ from + length list.now * code.width }
-    ensures bytes { out.new ≡ over out.old from (image_all code list.now) }
+    requires room { from + length list.now * R.code.width ≤ length out.old }
+    ensures end { result ≡ from + length list.now * R.code.width }
+    ensures bytes { out.new ≡ over out.old from (image_all R.code list.now) }
 {
     let width = R::width();
     let mut end = from;
@@ -36,8 +36,8 @@ pub fn put<R: Record>(out: &mut [u8], from: usize, list: &[R]) -> usize
 
 // The place of the first wrong byte among records that begin at a place, or none.
 pub fn first_wrong<R: Record>(file: &[u8], from: usize, count: usize) -> Option<usize>
-    requires inside { from + count * code.width ≤ length file.now }
-    ensures { result ≡ wrong_from code from count (drop from file.now) }
+    requires inside { from + count * R.code.width ≤ length file.now }
+    ensures { result ≡ wrong_from R.code from count (drop from file.now) }
 {
     let width = R::width();
     let mut at = from;

@@ -10,8 +10,8 @@ returns c = record {
   entries = entry_exact;
   states = state_exact;
   ranges = range_exact;
-  range-terms = range_term_exact;
+  range_terms = range_term_exact;
   sets = set_exact;
   rules = (rule_exact range_code range_exact refl range_free, rule_exact set_code set_exact refl set_free);
-  mark-terms = mark_term_exact;
+  mark_terms = mark_term_exact;
 }

@@ -6,8 +6,8 @@ use Rattle.codec.proofs.runs.fill.Goals as goal
 pub loop-i-init : goal.loop-i-init
 loop-i-init g c = (omega arith, sym (over_none c.args.list.now c.args.from (omega arith)))
 
-pub slice-bounds-read-end : goal.slice-bounds-read-end
-slice-bounds-read-end g c =
+pub slice_bounds-read-end : goal.slice_bounds-read-end
+slice_bounds-read-end g c =
     let w = g.R.Record.code.width in
     let e = ends c.loop-i.i c.args.count w c.loop-i-test.true in
     let within : c.loop-i.at + c.width-width.result ≤ length c.args.bytes.now = omega (arith, c.loop-i.invariant.0) in

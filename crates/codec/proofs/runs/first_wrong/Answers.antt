@@ -3,20 +3,20 @@ use Rattle.codec_laws.specs.Lists.{wrong_from}
 use Rattle.codec.proofs.Turns.{ends, next_at, wrong_found, wrong_none}
 use Rattle.codec.proofs.runs.first_wrong.Goals as goal
 
-pub overflow-add-at : goal.overflow-add-at
-overflow-add-at g c =
+pub overflow_add-at : goal.overflow_add-at
+overflow_add-at g c =
     let e = ends c.loop-i.i c.args.count g.R.Record.code.width c.loop-i-test.true in
     let within : c.loop-i.at + c.width-width.result ≤ length c.args.file.now = omega arith in
     search rules
 
-pub slice-bounds-wrong-end : goal.slice-bounds-wrong-end
-slice-bounds-wrong-end g c =
+pub slice_bounds-wrong-end : goal.slice_bounds-wrong-end
+slice_bounds-wrong-end g c =
     let e = ends c.loop-i.i c.args.count g.R.Record.code.width c.loop-i-test.true in
     let within : c.loop-i.at + c.width-width.result ≤ length c.args.file.now = omega arith in
     search rules
 
-pub overflow-add-result : goal.overflow-add-result
-overflow-add-result g c =
+pub overflow_add-result : goal.overflow_add-result
+overflow_add-result g c =
     let e = ends c.loop-i.i c.args.count g.R.Record.code.width c.loop-i-test.true in
     let p = g.R.Record.laws.inside _ c.in-Some.place (sym c.in-Some.ensures) in
     let within : c.loop-i.at + c.in-Some.place < length c.args.file.now = omega arith in
@@ -29,8 +29,8 @@ returns-in-Some g c =
     sym (wrong_found g.R.Record.code c.args.file.now at c.args.count c.loop-i.i _ c.loop-i-test.true size c.in-Some.place (sym c.in-Some.ensures))
     ∙ c.loop-i.invariant.1
 
-pub overflow-add-at-in-loop-i : goal.overflow-add-at-in-loop-i
-overflow-add-at-in-loop-i g c =
+pub overflow_add-at-in-loop-i : goal.overflow_add-at-in-loop-i
+overflow_add-at-in-loop-i g c =
     let e = ends c.loop-i.i c.args.count g.R.Record.code.width c.loop-i-test.true in
     let within : c.loop-i.at + c.width-width.result ≤ length c.args.file.now = omega arith in
     search rules
@@ -46,6 +46,6 @@ loop-i-preserved g c =
     let next = next_at c.loop-i.i code.width in (
       omega arith,
       ap rest (sym same)
-          ∙ sym (wrong_none code c.args.file.now at c.args.count c.loop-i.i _ c.loop-i-test.true size (sym c.wrong.ensures ∙ c.in-default.is))
+          ∙ sym (wrong_none code c.args.file.now at c.args.count c.loop-i.i _ c.loop-i-test.true size (sym c.wrong.ensures ∙ c.in_default.is))
           ∙ c.loop-i.invariant.1,
     )

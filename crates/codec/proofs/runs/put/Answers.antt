@@ -9,20 +9,20 @@ use Rattle.codec.proofs.runs.put.Goals as goal
 pub loop-record-init : goal.loop-record-init
 loop-record-init g c = (omega arith, sym (over_none c.args.out.now c.args.from (omega arith)))
 
-pub overflow-add-end : goal.overflow-add-end
-overflow-add-end g c =
+pub overflow_add-end : goal.overflow_add-end
+overflow_add-end g c =
     let e = ends c.loop-record.record-index (length c.args.list.now) g.R.Record.code.width c.loop-record-test.true in
     let within : c.loop-record.end + c.width-width.result ≤ length c.args.out.now = omega arith in
     search rules
 
-pub slice-bounds-write-end : goal.slice-bounds-write-end
-slice-bounds-write-end g c =
+pub slice_bounds-write-end : goal.slice_bounds-write-end
+slice_bounds-write-end g c =
     let e = ends c.loop-record.record-index (length c.args.list.now) g.R.Record.code.width c.loop-record-test.true in
     let within : c.loop-record.end + c.width-width.result ≤ length c.args.out.now = omega arith in
     search rules
 
-pub overflow-add-end-in-loop-record : goal.overflow-add-end-in-loop-record
-overflow-add-end-in-loop-record g c =
+pub overflow_add-end-in-loop-record : goal.overflow_add-end-in-loop-record
+overflow_add-end-in-loop-record g c =
     let e = ends c.loop-record.record-index (length c.args.list.now) g.R.Record.code.width c.loop-record-test.true in
     let within : c.loop-record.end + c.width-width.result ≤ length c.args.out.now = omega arith in
     search rules

@@ -9,6 +9,6 @@ returns g c =
     let ys = c.args.more.now in
     let n = c.args.at in
     let size : (n + length ys) - n ≡ length ys = omega arith in
-    ap (put_mid n ((n + length ys) - n) xs) c.copy-from-slice.ensures.after
+    ap (put_mid n ((n + length ys) - n) xs) c.copy_from_slice.ensures.after
     ∙ ap (λ k. put_mid n k xs ys) size
     ∙ ap (λ l. take n xs ++ (ys ++ l)) (drop-drop (length ys) n xs)

@@ -21,8 +21,8 @@ six_are x y z p q r front ep eq er e = e ∙ rw (ep, eq, er)
 pub returns : goal.returns
 returns g c =
     let r = c.args.self in
-    let front = c.copy-from-slice.new.self in
-    let six = c.copy-from-slice.ensures.after in
+    let front = c.copy_from_slice.new.self in
+    let six = c.copy_from_slice.ensures.after in
     behind front (post_of 0 6 c.args.out.now) c.write.new.out (ap length six)
-    ∙ ap (λ l. l ++ c.write.new.out) (six_are r.state r.next r.outputs c.to-be-bytes.result c.to-be-bytes-2.result c.to-be-bytes-3.result front c.to-be-bytes.ensures c.to-be-bytes-2.ensures c.to-be-bytes-3.ensures six)
+    ∙ ap (λ l. l ++ c.write.new.out) (six_are r.state r.next r.outputs c.to_be_bytes.result c.to_be_bytes-2.result c.to_be_bytes-3.result front c.to_be_bytes.ensures c.to_be_bytes-2.ensures c.to_be_bytes-3.ensures six)
     ∙ ap (λ l. (two r.state ++ (two r.next ++ two r.outputs)) ++ l) c.write.ensures

@@ -9,7 +9,7 @@ pub returns : goal.returns
 returns g c =
     let M = memory_of c.args.self.now in
     let F = table_of c.args.draft.now in
-    let room = sym c.if-not-has-room-for.ensures in
+    let room = sym c.if-not-has_room_for.ensures in
     let memory : _ ≡ appended M F = search rules in
     record {
       answer = sym room;
