@@ -21,15 +21,15 @@ returns-then-most-eq0 g c =
       composes = joins m law F H c.requires.first c.requires.second;
     }
 
-pub returns-in-default : goal.returns-in-default
-returns-in-default g c =
+pub returns-in_default : goal.returns-in_default
+returns-in_default g c =
     let m = g.A.Alphabet.model in
     let law = g.A.Alphabet.laws in
     let F = table_of c.args.first.now in
     let H = table_of c.args.second.now in
     let q = c.new-queue.result in
     let top : room q ≡ c.least-most.result - 0 = c.new-queue.ensures.room ∙ length-take-le (c.least-most.result - 0) c.args.pairs.now (omega (arith, c.least.ensures, c.least-most.ensures)) in
-    let full = number_refused (length (entries q)) (room q) _ _ c.in-default.ensures.answer in
+    let full = number_refused (length (entries q)) (room q) _ _ c.in_default.ensures.answer in
     record {
       joins = λ r. omega (arith, full, top, ap length c.new-queue.ensures.entries, c.if-most-eq0.false);
       composes = joins m law F H c.requires.first c.requires.second;
@@ -62,11 +62,11 @@ returns g c =
     let S = c.args.states.now in
     let R = c.args.rules.now in
     let O = c.args.outputs.now in
-    let k = c.least-most-rules.result - 0 in
-    let l = c.least-most-outputs.result - 0 in
+    let k = c.least-most_rules.result - 0 in
+    let l = c.least-most_outputs.result - 0 in
     let low : room c.push.new.self ≡ min (min (length S) (length c.args.pairs.now)) 64 = omega (arith, e.room, top, c.least.ensures, c.least-most.ensures) in
     record {
-      joins = answers_from_fills (joined m F H) (length c.args.pairs.now) S R O (room c.push.new.self) k l low (omega (arith, c.least-most-rules.ensures)) (omega (arith, c.least-most-outputs.ensures))
+      joins = answers_from_fills (joined m F H) (length c.args.pairs.now) S R O (room c.push.new.self) k l low (omega (arith, c.least-most_rules.ensures)) (omega (arith, c.least-most_outputs.ensures))
           c.fill.new.states c.fill.new.rules c.fill.new.outputs c.fill.result c.fill.ensures.fills;
       composes = c.fill.ensures.composes;
     }

@@ -34,47 +34,47 @@ returns-then-entry-ne1 g c =
     let e = final_rejects m F q (entry F.states q) (slice_get-get_or F.states q _ c.if-state-first.false) c.if-entry-ne1.true in
     ap (λ o. and_then o (λ w. transduced_from (machine_of m (table_of c.args.second.now)) w c.args.pair.1)) e
 
-pub offset-bounds-first-from : goal.offset-bounds-first-from
-offset-bounds-first-from g c =
+pub offset_bounds-first-from : goal.offset_bounds-first-from
+offset_bounds-first-from g c =
     let F = table_of c.args.first.now in
     let q = c.args.pair.0 in
     let is = slice_get-get_or F.states q (record { mark = 0; finals = 0 }) c.if-state-first.false in
     let m = g.A.Alphabet.model in
     omega (arith, final_within m F q (entry F.states q) is c.requires.first, before m F q (entry F.states q) is)
 
-pub slice-bounds-run-constants-end : goal.slice-bounds-run-constants-end
-slice-bounds-run-constants-end g c =
+pub slice_bounds-run_constants-end : goal.slice_bounds-run_constants-end
+slice_bounds-run_constants-end g c =
     let F = table_of c.args.first.now in
     let q = c.args.pair.0 in
     let is = slice_get-get_or F.states q (record { mark = 0; finals = 0 }) c.if-state-first.false in
     let m = g.A.Alphabet.model in
-    let end : c.final-total-from.result + (entry F.states q).finals ≤ length F.outputs = omega (arith, final_within m F q (entry F.states q) is c.requires.first, before m F q (entry F.states q) is) in
+    let end : c.final_total-from.result + (entry F.states q).finals ≤ length F.outputs = omega (arith, final_within m F q (entry F.states q) is c.requires.first, before m F q (entry F.states q) is) in
     search rules
 
-pub run-constants-requires : goal.run-constants-requires
-run-constants-requires g c =
+pub run_constants-requires : goal.run_constants-requires
+run_constants-requires g c =
     let F = table_of c.args.first.now in
     let q = c.args.pair.0 in
     let is = slice_get-get_or F.states q (record { mark = 0; finals = 0 }) c.if-state-first.false in
     let m = g.A.Alphabet.model in
     record {
       second = c.requires.second;
-      terms = subst (AllByRecursion (SoundTerm m)) (sym (part_at m F q (entry F.states q) is c.final-total-from.result c.final-total-from.ensures.total)) (final_sound m F q (entry F.states q) is c.requires.first);
+      terms = subst (AllByRecursion (SoundTerm m)) (sym (part_at m F q (entry F.states q) is c.final_total-from.result c.final_total-from.ensures.total)) (final_sound m F q (entry F.states q) is c.requires.first);
       few = simp length-take (omega (arith, c.requires.first.short_final q (entry F.states q) is));
       room = c.requires.room;
     }
 
-pub returns-in-default : goal.returns-in-default
+pub returns-in_default : goal.returns-in_default
 unfolding final_at
-returns-in-default g c =
+returns-in_default g c =
     let m = g.A.Alphabet.model in
     let F = table_of c.args.first.now in
     let M = machine_of m (table_of c.args.second.now) in
     let q = c.args.pair.0 in
     let is = slice_get-get_or F.states q (record { mark = 0; finals = 0 }) c.if-state-first.false in
-    let part = part_at m F q (entry F.states q) is c.final-total-from.result c.final-total-from.ensures.total in
+    let part = part_at m F q (entry F.states q) is c.final_total-from.result c.final_total-from.ensures.total in
     let e = final_accepts m F q (entry F.states q) is c.if-entry-ne1.false ∙ ap (λ l. Some (values_of m l 0)) (sym part) in
-    ap (λ o. and_then o (λ w. transduced_from M w c.args.pair.1)) e ∙ ap (λ o. and_then o (λ r. prefixed r.1 (M.final r.0))) c.in-default.ensures.ran
+    ap (λ o. and_then o (λ w. transduced_from M w c.args.pair.1)) e ∙ ap (λ o. and_then o (λ r. prefixed r.1 (M.final r.0))) c.in_default.ensures.ran
 
 pub returns : goal.returns
 unfolding final_at
@@ -85,11 +85,11 @@ returns g c =
     let M = machine_of m H in
     let q = c.args.pair.0 in
     let is = slice_get-get_or F.states q (record { mark = 0; finals = 0 }) c.if-state-first.false in
-    let part = part_at m F q (entry F.states q) is c.final-total-from.result c.final-total-from.ensures.total in
+    let part = part_at m F q (entry F.states q) is c.final_total-from.result c.final_total-from.ensures.total in
     let e = final_accepts m F q (entry F.states q) is c.if-entry-ne1.false ∙ ap (λ l. Some (values_of m l 0)) (sym part) in
     let ran = c.in-Some.ensures.ran in
     let p = c.in-Some.reached in
-    let u = values_of m (take ((c.final-total-from.result + (entry F.states q).finals) - c.final-total-from.result) (drop c.final-total-from.result F.outputs)) 0 in
-    let k = final_ends M c.args.pair.1 p c.in-Some.count u c.run-constants.new.out c.finish.new.out (M.final p) ran.0 refl ran.1 (omega (arith, c.requires.room, c.run-constants.auto.out)) (final_short m H c.requires.second p) c.finish.auto.out c.finish.ensures.output in
+    let u = values_of m (take ((c.final_total-from.result + (entry F.states q).finals) - c.final_total-from.result) (drop c.final_total-from.result F.outputs)) 0 in
+    let k = final_ends M c.args.pair.1 p c.in-Some.count u c.run_constants.new.out c.finish.new.out (M.final p) ran.0 refl ran.1 (omega (arith, c.requires.room, c.run_constants.auto.out)) (final_short m H c.requires.second p) c.finish.auto.out c.finish.ensures.output in
     subst (λ r. Ends (final_at m F H c.args.pair) c.finish.new.out r) (sym c.finish.ensures.answer)
     (subst (λ o. Ends o c.finish.new.out (behind c.in-Some.count (M.final p))) (sym (ap (λ o. and_then o (λ w. transduced_from M w c.args.pair.1)) e)) k)

@@ -34,24 +34,24 @@ value-requires g c = record {
   sound = all_read (SoundTerm g.A.Alphabet.model) c.args.terms.now c.loop-term.term-index c.term-item.result c.loop-term-test.true c.term-item.is c.requires.terms;
 }
 
-pub loop-term-preserved-in-default : goal.loop-term-preserved-in-default
-loop-term-preserved-in-default g c =
+pub loop-term-preserved-in_default : goal.loop-term-preserved-in_default
+loop-term-preserved-in_default g c =
     let m = g.A.Alphabet.model in
     let I = c.loop-term.invariant in
-    let e = values_upto m c.args.terms.now c.loop-term.term-index c.term-item.result c.loop-term-test.true c.term-item.is None (sym c.value.ensures ∙ c.in-default.is) in
+    let e = values_upto m c.args.terms.now c.loop-term.term-index c.term-item.result c.loop-term-test.true c.term-item.is None (sym c.value.ensures ∙ c.in_default.is) in
     (ap (λ u. run (machine_of m (table_of c.args.second.now)) u c.args.start) (e ∙ append-nil _) ∙ I.0, omega (arith, I.1), I.2)
 
-pub returns-in-default-walk : goal.returns-in-default-walk
-returns-in-default-walk g c =
+pub returns-in_default-walk : goal.returns-in_default-walk
+returns-in_default-walk g c =
     let m = g.A.Alphabet.model in
     let M = machine_of m (table_of c.args.second.now) in
     record {
       ran = run_stuck m c.args.terms.now c.loop-term.term-index c.term-item.result c.loop-term-test.true c.term-item.is M c.args.start c.loop-term.state (take c.loop-term.count c.loop-term.out) c.in-Some.symbol
-          (sym c.value.ensures ∙ c.in-Some.is) c.loop-term.invariant.0 (walk_stuck M c.loop-term.state c.in-Some.symbol c.in-default-walk.field-0 c.in-default-walk.ensures.answer);
+          (sym c.value.ensures ∙ c.in-Some.is) c.loop-term.invariant.0 (walk_stuck M c.loop-term.state c.in-Some.symbol c.in_default-walk.field-0 c.in_default-walk.ensures.answer);
     }
 
-pub overflow-add-count : goal.overflow-add-count
-overflow-add-count g c =
+pub overflow_add-count : goal.overflow_add-count
+overflow_add-count g c =
     let m = g.A.Alphabet.model in
     let I = c.loop-term.invariant in
     let M = machine_of m (table_of c.args.second.now) in

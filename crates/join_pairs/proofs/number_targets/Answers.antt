@@ -7,31 +7,31 @@ use Rattle.join_pairs.specs.Meets.{renumbered}
 use Rattle.join_pairs.proofs.Meetings.{Partly, partly_none, partly_length, partly_read, partly_more, partly_over, partly_done}
 use Rattle.join_pairs.proofs.number_targets.Goals as goal
 
-pub returns-in-err-number : goal.returns-in-err-number
-returns-in-err-number g c =
+pub returns-in_err-number : goal.returns-in_err-number
+returns-in_err-number g c =
     let P₀ = entries c.args.queue.now in
     let rs = c.args.rules.now in
     let I = c.loop-i.invariant in
     let r = c.index-rules-i.result in
     let h : c.loop-i.i < length rs = omega (arith, c.loop-i-test.true) in
     let read = partly_read c.args.first P₀ rs c.loop-i.i (entries c.loop-i.queue) c.loop-i.rules I.0 h r c.index-rules-i.is in
-    let over = c.in-err-number.ensures.meets in
-    let p = err_from_is_err_and c.from-residual.result c.from-residual.ensures.1 in
+    let over = c.in_err-number.ensures.meets in
+    let p = err_from_is_err_and c.from_residual.result c.from_residual.ensures.1 in
     record {
       numbers = rw p.1 (partly_over c.args.first P₀ rs c.loop-i.i (entries c.loop-i.queue) c.loop-i.rules I.0 h r read (room c.args.queue.now) (omega (arith, over, I.1)));
       taken = c.meet.ensures.taken ∙ I.3;
       room = c.meet.ensures.room ∙ I.1;
     }
 
-pub overflow-cast-rules : goal.overflow-cast-rules
-overflow-cast-rules g c =
-    let m = c.in-ok-number.ensures.meets in
+pub overflow_cast-rules : goal.overflow_cast-rules
+overflow_cast-rules g c =
+    let m = c.in_ok-number.ensures.meets in
     let P = entries c.loop-i.queue in
     let x : Pair = (c.args.first, c.index-rules-i.result.next) in
     let known = met_in P x in
-    let number : c.in-ok-number.number ≡ place (met P x) x = m.1 ∙ ap (λ l. place l x) m.0 in
+    let number : c.in_ok-number.number ≡ place (met P x) x = m.1 ∙ ap (λ l. place l x) m.0 in
     let long = ap length m.0 in
-    let low : c.in-ok-number.number < 65536 = omega (arith, known, number, long, m.2, c.loop-i.invariant.1, c.requires.few) in
+    let low : c.in_ok-number.number < 65536 = omega (arith, known, number, long, m.2, c.loop-i.invariant.1, c.requires.few) in
     search rules
 
 pub loop-i-preserved : goal.loop-i-preserved
@@ -44,8 +44,8 @@ loop-i-preserved g c =
     let x : Pair = (c.args.first, r.next) in
     let h : c.loop-i.i < length rs = omega (arith, c.loop-i-test.true) in
     let read = partly_read c.args.first P₀ rs c.loop-i.i P c.loop-i.rules I.0 h r c.index-rules-i.is in
-    let m = c.in-ok-number.ensures.meets in
-    let number : c.in-ok-number.number ≡ place (met P x) x = m.1 ∙ ap (λ l. place l x) m.0 in
+    let m = c.in_ok-number.ensures.meets in
+    let number : c.in_ok-number.number ≡ place (met P x) x = m.1 ∙ ap (λ l. place l x) m.0 in
     let more = partly_more c.args.first P₀ rs c.loop-i.i P c.loop-i.rules I.0 h r read in
     (rw (m.0, number) more, c.meet.ensures.room ∙ I.1, omega (arith, m.2, c.meet.ensures.room), c.meet.ensures.taken ∙ I.3)
 

@@ -11,27 +11,27 @@ use Rattle.join_ways.specs.Added.{Fits, Added}
 use Rattle.join_ways.proofs.Adds.{rules_long, outputs_long}
 use Rattle.join_rules.proofs.Turns.{Walking, walking_start, walking_end, walking_skip, walking_on, walking_refused, ends_within, terms_sound}
 use Rattle.join_rules.proofs.add_pair.Goals as goal
-use Rattle.join_rules.proofs.add_pair.Goals.{then-rule-pair+in-ok-so-far, else-rule-pair}
+use Rattle.join_rules.proofs.add_pair.Goals.{then-rule-pair+in_ok-so_far, else-rule-pair}
 
 pub loop-rule-init : goal.loop-rule-init
-loop-rule-init g c = (walking_start _ _ _ _ _ _ _ _ _ _ c.requires.first c.final-total-start.result c.final-total-start.ensures.total c.requires.fits c.requires.rules c.requires.outputs, refl, refl)
+loop-rule-init g c = (walking_start _ _ _ _ _ _ _ _ _ _ c.requires.first c.final_total-start.result c.final_total-start.ensures.total c.requires.fits c.requires.rules c.requires.outputs, refl, refl)
 
-pub overflow-add-start : goal.overflow-add-start
-overflow-add-start g c =
+pub overflow_add-start : goal.overflow_add-start
+overflow_add-start g c =
     let e = ends_within _ _ _ _ _ _ _ _ _ _ _ _ _ _ _ _ c.loop-rule.invariant.0 c.rule-item.result c.loop-rule-test.true c.rule-item.is in
     let few = c.requires.first.few_outputs in
     search rules
 
-pub offset-bounds-first-from : goal.offset-bounds-first-from
-offset-bounds-first-from g c = omega (arith, ends_within _ _ _ _ _ _ _ _ _ _ _ _ _ _ _ _ c.loop-rule.invariant.0 c.rule-item.result c.loop-rule-test.true c.rule-item.is)
+pub offset_bounds-first-from : goal.offset_bounds-first-from
+offset_bounds-first-from g c = omega (arith, ends_within _ _ _ _ _ _ _ _ _ _ _ _ _ _ _ _ c.loop-rule.invariant.0 c.rule-item.result c.loop-rule-test.true c.rule-item.is)
 
-pub slice-bounds-course-end : goal.slice-bounds-course-end
-slice-bounds-course-end g c =
+pub slice_bounds-course-end : goal.slice_bounds-course-end
+slice_bounds-course-end g c =
     let e = ends_within _ _ _ _ _ _ _ _ _ _ _ _ _ _ _ _ c.loop-rule.invariant.0 c.rule-item.result c.loop-rule-test.true c.rule-item.is in
     search rules
 
-pub add-line-requires : goal.add-line-requires
-add-line-requires g c =
+pub add_line-requires : goal.add_line-requires
+add_line-requires g c =
     let m = g.A.Alphabet.model in
     let I = c.loop-rule.invariant in
     let r = c.rule-item.result in
@@ -44,7 +44,7 @@ add-line-requires g c =
     let ol = outputs_long _ _ _ _ _ _ _ took.2 in
     record {
       second = c.requires.second;
-      first = c.final-total-begins.ensures.total;
+      first = c.final_total-begins.ensures.total;
       terms = subst (λ n. AllByRecursion (SoundTerm m) (take n (drop start O))) (sym size) (terms_sound _ _ _ _ _ _ _ _ _ _ _ _ _ _ _ _ I.0 r c.loop-rule-test.true c.rule-item.is);
       guard = c.requires.first.guard c.loop-rule.rule-index r nth;
       fits = omega (arith, took.1, I.1);
@@ -54,43 +54,43 @@ add-line-requires g c =
       outputs = omega (arith, took.2.output_count, took.2.fits.outputs_fit);
     }
 
-pub returns-in-err-so-far : goal.returns-in-err-so-far
-returns-in-err-so-far g c =
+pub returns-in_err-so_far : goal.returns-in_err-so_far
+returns-in_err-so_far g c =
     let I = c.loop-rule.invariant in
     let r = c.rule-item.result in
     let start = c.loop-rule.start in
     let O = c.args.first.now.outputs.now in
     let size : (start + r.outputs) - start ≡ r.outputs = omega arith in
     let here : eqb r.state c.args.pair.0 ≡ true = grind (arith, nat_tests) in
-    let over = c.in-err-so-far.ensures.takes in
-    let e = err_from_is_err_and c.from-residual.result c.from-residual.ensures.1 in
+    let over = c.in_err-so_far.ensures.takes in
+    let e = err_from_is_err_and c.from_residual.result c.from_residual.ensures.1 in
     record {
       takes = rw e.1 (walking_refused _ _ _ _ _ _ _ _ _ _ _ _ _ _ _ _ I.0 r c.loop-rule-test.true c.rule-item.is (take ((start + r.outputs) - start) (drop start O)) (ap (λ n. take n (drop start O)) size) here
           (λ low. over (omega (arith, low, I.1))));
-      taken = c.add-line.ensures.taken ∙ I.2;
-      room = c.add-line.ensures.room ∙ I.1;
+      taken = c.add_line.ensures.taken ∙ I.2;
+      room = c.add_line.ensures.room ∙ I.1;
     }
 
 pub loop-rule-preserved : goal.loop-rule-preserved
 loop-rule-preserved g c = elim c.if-rule-pair.branch [
-  | then-rule-pair+in-ok-so-far w ↦
+  | then-rule-pair+in_ok-so_far w ↦
       let I = c.loop-rule.invariant in
       let r = c.rule-item.result in
       let start = c.loop-rule.start in
       let O = c.args.first.now.outputs.now in
       let size : (start + r.outputs) - start ≡ r.outputs = omega arith in
       let here : eqb r.state c.args.pair.0 ≡ true = grind (arith, nat_tests) in
-      let t = w.in-ok-so-far.ensures.takes in
-      rw (w.queue-is, w.rules-is, w.outputs-is, w.so-far-is) (
+      let t = w.in_ok-so_far.ensures.takes in
+      rw (w.queue-is, w.rules-is, w.outputs-is, w.so_far-is) (
         walking_on _ _ _ _ _ _ _ _ _ _ _ _ _ _ _ _ I.0 r c.loop-rule-test.true c.rule-item.is (take ((start + r.outputs) - start) (drop start O)) (ap (λ n. take n (drop start O)) size) here
             _ _ _ _ (t.0, omega (arith, t.1, I.1), t.2),
-        w.add-line.ensures.room ∙ I.1,
-        w.add-line.ensures.taken ∙ I.2,
+        w.add_line.ensures.room ∙ I.1,
+        w.add_line.ensures.taken ∙ I.2,
       )
   | else-rule-pair w ↦
       let I = c.loop-rule.invariant in
       let other : eqb c.rule-item.result.state c.args.pair.0 ≡ false = grind (arith, nat_tests) in
-      rw (w.queue-is, w.rules-is, w.outputs-is, w.so-far-is)
+      rw (w.queue-is, w.rules-is, w.outputs-is, w.so_far-is)
       (walking_skip _ _ _ _ _ _ _ _ _ _ _ _ _ _ _ _ I.0 c.rule-item.result c.loop-rule-test.true c.rule-item.is other, I.1, I.2)
 ]
 

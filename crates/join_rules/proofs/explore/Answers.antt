@@ -17,14 +17,14 @@ loop-number-init g c =
     let start = exploring_start m g.A.Alphabet.laws (table_of c.args.first.now) (table_of c.args.second.now) c.requires.first c.requires.second (room c.args.queue.now) c.args.rules.now c.args.outputs.now c.requires.fits in
     (rw (c.requires.start, c.requires.waits) start, refl)
 
-pub overflow-cast-number : goal.overflow-cast-number
-overflow-cast-number g c =
+pub overflow_cast-number : goal.overflow_cast-number
+overflow_cast-number g c =
     let n = c.in-Some.ensures.answer in
     let low : c.in-Some.number < 64 = omega (arith, n.1, c.loop-number.invariant.0.low, c.requires.few) in
     search rules
 
-pub add-pair-requires : goal.add-pair-requires
-add-pair-requires g c =
+pub add_pair-requires : goal.add_pair-requires
+add_pair-requires g c =
     let I = c.loop-number.invariant in
     let e = c.in-Some.ensures in
     let rl = rules_long _ _ _ _ _ _ _ I.0.added in
@@ -39,8 +39,8 @@ add-pair-requires g c =
       outputs = omega (arith, I.0.added.output_count, I.0.added.fits.outputs_fit);
     }
 
-pub returns-in-err-counts : goal.returns-in-err-counts
-returns-in-err-counts g c =
+pub returns-in_err-counts : goal.returns-in_err-counts
+returns-in_err-counts g c =
     let m = g.A.Alphabet.model in
     let F = table_of c.args.first.now in
     let H = table_of c.args.second.now in
@@ -52,14 +52,14 @@ returns-in-err-counts g c =
     let ws = ways_at m F H c.in-Some.pair in
     let h : k < length P = omega (arith, n.0, n.1) in
     let is = n.2 (0, 0) ∙ ap (λ i. get_or P i (0, 0)) n.0 in
-    let over = c.in-err-counts.ensures.takes in
-    let r = err_from_is_err_and c.from-residual.result c.from-residual.ensures.1 in
+    let over = c.in_err-counts.ensures.takes in
+    let r = err_from_is_err_and c.from_residual.result c.from_residual.ensures.1 in
     let over₁ = subst (λ Q. length (met_all Q (targets ws)) ≤ room c.next.new.self → Fits c.loop-number.counts (map (numbered (met_all Q (targets ws)) c.in-Some.number) ws) c.loop-number.rules c.loop-number.outputs → ⊥) e.entries over in
     let over₂ = subst (λ i. length (met_all P (targets ws)) ≤ room c.next.new.self → Fits c.loop-number.counts (map (numbered (met_all P (targets ws)) i) ws) c.loop-number.rules c.loop-number.outputs → ⊥) n.0 over₁ in
     record {
       explores = rw r.1 (exploring_refused m g.A.Alphabet.laws F H c.requires.first c.requires.second (room c.args.queue.now) c.args.rules.now c.args.outputs.now k P c.loop-number.counts c.loop-number.rules c.loop-number.outputs I.0 c.in-Some.pair h is
           (λ low. over₂ (omega (arith, low, e.room, I.1))));
-      room = c.add-pair.ensures.room ∙ e.room ∙ I.1;
+      room = c.add_pair.ensures.room ∙ e.room ∙ I.1;
     }
 
 pub loop-number-preserved : goal.loop-number-preserved
@@ -75,17 +75,17 @@ loop-number-preserved g c =
     let ws = ways_at m F H c.in-Some.pair in
     let h : k < length P = omega (arith, n.0, n.1) in
     let is = n.2 (0, 0) ∙ ap (λ i. get_or P i (0, 0)) n.0 in
-    let t = c.in-ok-counts.ensures.takes in
-    let d = c.in-ok-counts.counts in
-    let P₂ = entries c.add-pair.new.queue in
-    let R₂ = c.add-pair.new.rules in
-    let O₂ = c.add-pair.new.outputs in
+    let t = c.in_ok-counts.ensures.takes in
+    let d = c.in_ok-counts.counts in
+    let P₂ = entries c.add_pair.new.queue in
+    let R₂ = c.add_pair.new.rules in
+    let O₂ = c.add_pair.new.outputs in
     let took : Took c.in-Some.number ws P (room c.args.queue.now) c.loop-number.counts d c.loop-number.rules c.loop-number.outputs P₂ R₂ O₂ =
     (t.0 ∙ ap (λ l. met_all l (targets ws)) e.entries, omega (arith, t.1, e.room, I.1), t.2) in
     let next = exploring_next m g.A.Alphabet.laws F H c.requires.first c.requires.second (room c.args.queue.now) c.args.rules.now c.args.outputs.now k P c.loop-number.counts c.loop-number.rules c.loop-number.outputs I.0 c.in-Some.pair h is d P₂ R₂ O₂
     (subst (λ i. Took i ws P (room c.args.queue.now) c.loop-number.counts d c.loop-number.rules c.loop-number.outputs P₂ R₂ O₂) n.0 took) in (
-      subst (λ i. Exploring m F H (room c.args.queue.now) c.args.rules.now c.args.outputs.now i P₂ d R₂ O₂) (sym (c.add-pair.ensures.taken ∙ e.taken)) next,
-      c.add-pair.ensures.room ∙ e.room ∙ I.1,
+      subst (λ i. Exploring m F H (room c.args.queue.now) c.args.rules.now c.args.outputs.now i P₂ d R₂ O₂) (sym (c.add_pair.ensures.taken ∙ e.taken)) next,
+      c.add_pair.ensures.room ∙ e.room ∙ I.1,
     )
 
 pub returns : goal.returns
@@ -94,7 +94,7 @@ returns g c =
     let F = table_of c.args.first.now in
     let H = table_of c.args.second.now in
     let I = c.loop-number.invariant in
-    let e = c.in-default.ensures in
+    let e = c.in_default.ensures in
     let done = exploring_end m g.A.Alphabet.laws F H c.requires.first c.requires.second (room c.args.queue.now) c.args.rules.now c.args.outputs.now c.loop-number.queue.taken (entries c.loop-number.queue) c.loop-number.counts c.loop-number.rules c.loop-number.outputs I.0 (omega (arith, e.answer)) in
     record {
       explores = (e.entries ∙ done.0, omega (arith, ap length e.entries, I.0.low), done.1);

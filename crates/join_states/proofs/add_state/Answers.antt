@@ -10,39 +10,39 @@ use Rattle.join_ways.specs.Written.{spliced}
 use Rattle.join_states.proofs.Endings.{ended_none, ended_long, ended_over, ended_some}
 use Rattle.join_states.proofs.add_state.Goals as goal
 
-pub returns-in-default : goal.returns-in-default
-returns-in-default g c =
-    ended_none g.A.Alphabet.model c.args.at c.args.outputs.now _ c.in-default.ensures c.requires.at
+pub returns-in_default : goal.returns-in_default
+returns-in_default g c =
+    ended_none g.A.Alphabet.model c.args.at c.args.outputs.now _ c.in_default.ensures c.requires.at
 
-pub returns-then-count-gt-MOST-AT-ONCE : goal.returns-then-count-gt-MOST-AT-ONCE
-returns-then-count-gt-MOST-AT-ONCE g c =
+pub returns-then-count-gt-MOST_AT_ONCE : goal.returns-then-count-gt-MOST_AT_ONCE
+returns-then-count-gt-MOST_AT_ONCE g c =
     let e = c.in-Some.ensures in
-    ended_long g.A.Alphabet.model c.args.at c.args.outputs.now _ (take c.in-Some.count c.final-of.new.out) e.0 (omega (arith, length-take-le c.in-Some.count c.final-of.new.out e.1, c.if-count-gt-MOST-AT-ONCE.true))
+    ended_long g.A.Alphabet.model c.args.at c.args.outputs.now _ (take c.in-Some.count c.final_of.new.out) e.0 (omega (arith, length-take-le c.in-Some.count c.final_of.new.out e.1, c.if-count-gt-MOST_AT_ONCE.true))
 
-pub write-constants-requires : goal.write-constants-requires
-write-constants-requires g c =
+pub write_constants-requires : goal.write_constants-requires
+write_constants-requires g c =
     let m = g.A.Alphabet.model in
     let e = c.in-Some.ensures in
     let zero : c.in-Some.count - 0 ≡ c.in-Some.count = omega arith in
     let inside = subst (Symbols m) e.0 (finals_inside m g.A.Alphabet.laws (table_of c.args.first.now) (table_of c.args.second.now) c.requires.second c.args.pair) in
-    record { inside = subst (λ n. AllByRecursion (λ s. s < m.size) (take n c.final-of.new.out)) (sym zero) inside; at = c.requires.at }
+    record { inside = subst (λ n. AllByRecursion (λ s. s < m.size) (take n c.final_of.new.out)) (sym zero) inside; at = c.requires.at }
 
-pub returns-in-err-end : goal.returns-in-err-end
-returns-in-err-end g c =
+pub returns-in_err-end : goal.returns-in_err-end
+returns-in_err-end g c =
     let m = g.A.Alphabet.model in
     let e = c.in-Some.ensures in
     let zero : c.in-Some.count - 0 ≡ c.in-Some.count = omega arith in
-    let over = subst (λ n. length c.args.outputs.now < c.args.at + length (map m.constant (take n c.final-of.new.out))) zero c.in-err-end.ensures in
-    let p = err_from_is_err_and c.from-residual.result c.from-residual.ensures.1 in
-    rw p.1 (ended_over m c.args.at c.args.outputs.now _ (take c.in-Some.count c.final-of.new.out) e.0 over)
+    let over = subst (λ n. length c.args.outputs.now < c.args.at + length (map m.constant (take n c.final_of.new.out))) zero c.in_err-end.ensures in
+    let p = err_from_is_err_and c.from_residual.result c.from_residual.ensures.1 in
+    rw p.1 (ended_over m c.args.at c.args.outputs.now _ (take c.in-Some.count c.final_of.new.out) e.0 over)
 
 pub returns : goal.returns
 returns g c =
     let m = g.A.Alphabet.model in
     let e = c.in-Some.ensures in
-    let out = c.final-of.new.out in
+    let out = c.final_of.new.out in
     let n = c.in-Some.count in
     let zero : n - 0 ≡ n = omega arith in
-    let w = c.in-ok-end.ensures in
-    ended_some m c.args.at c.args.outputs.now _ (take n out) e.0 n c.in-ok-end.end c.write-constants.new.outputs (length-take-le n out e.1) c.if-count-gt-MOST-AT-ONCE.false
+    let w = c.in_ok-end.ensures in
+    ended_some m c.args.at c.args.outputs.now _ (take n out) e.0 n c.in_ok-end.end c.write_constants.new.outputs (length-take-le n out e.1) c.if-count-gt-MOST_AT_ONCE.false
     (w.0 ∙ ap (λ i. c.args.at + length (map m.constant (take i out))) zero) w.1 (w.2 ∙ ap (λ i. spliced c.args.at (map m.constant (take i out)) c.args.outputs.now) zero)

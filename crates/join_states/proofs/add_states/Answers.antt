@@ -9,8 +9,8 @@ use Rattle.join_states.proofs.add_states.Goals as goal
 pub loop-number-init : goal.loop-number-init
 loop-number-init g c = ending_none _ _ _ _ _ c.requires.at
 
-pub returns-in-err-state : goal.returns-in-err-state
-returns-in-err-state g c =
+pub returns-in_err-state : goal.returns-in_err-state
+returns-in_err-state g c =
     let m = g.A.Alphabet.model in
     let f = final_at m (table_of c.args.first.now) (table_of c.args.second.now) in
     let ps = c.args.pairs.now in
@@ -18,8 +18,8 @@ returns-in-err-state g c =
     let x = get_or ps i (0, 0) in
     let h : i < length (map f ps) = omega (arith, length-map ps f, c.loop-number-test.true) in
     let is = sym (get_or-map f ps i (0, 0) None c.loop-number-test.true) in
-    let p = err_from_is_err_and c.from-residual.result c.from-residual.ensures.1 in
-    rw p.1 (ending_refused m c.args.at (map f ps) c.args.states.now c.args.outputs.now i c.loop-number.place c.loop-number.states c.loop-number.outputs c.loop-number.invariant (f x) h is c.in-err-state.ensures)
+    let p = err_from_is_err_and c.from_residual.result c.from_residual.ensures.1 in
+    rw p.1 (ending_refused m c.args.at (map f ps) c.args.states.now c.args.outputs.now i c.loop-number.place c.loop-number.states c.loop-number.outputs c.loop-number.invariant (f x) h is c.in_err-state.ensures)
 
 pub loop-number-preserved : goal.loop-number-preserved
 loop-number-preserved g c =
@@ -30,9 +30,9 @@ loop-number-preserved g c =
     let x = get_or ps i (0, 0) in
     let h : i < length (map f ps) = omega (arith, length-map ps f, c.loop-number-test.true) in
     let is = sym (get_or-map f ps i (0, 0) None c.loop-number-test.true) in
-    let r = c.in-ok-state.ensures in
+    let r = c.in_ok-state.ensures in
     rw r.0 (ending_more m c.args.at (map f ps) c.args.states.now c.args.outputs.now i c.loop-number.place c.loop-number.states c.loop-number.outputs c.loop-number.invariant (f x) h is
-    (omega (arith, length-map ps f, c.requires.states)) c.in-ok-state.end c.add-state.new.outputs r.1 r.2 r.3)
+    (omega (arith, length-map ps f, c.requires.states)) c.in_ok-state.end c.add_state.new.outputs r.1 r.2 r.3)
 
 pub returns : goal.returns
 returns g c =

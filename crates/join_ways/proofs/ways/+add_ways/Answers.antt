@@ -15,7 +15,7 @@ use Rattle.join_ways.proofs.Adds.{rules_long, outputs_long}
 use Rattle.join_ways.proofs.Goings.{Going, going_start, going_end, going_skip, going_on, going_refused, ends_within, span_sound}
 use Rattle.join_ways.proofs.Steps.{by_other, by_empty, by_some, ways_done, spans_sound, along_on, path_kept}
 use Rattle.join_ways.proofs.ways.+add_ways.Goals as goal
-use Rattle.join_ways.proofs.ways.+add_ways.Goals.{then-rule-state+in-Some+in-ok-so-far, else-rule-state}
+use Rattle.join_ways.proofs.ways.+add_ways.Goals.{then-rule-state+in-Some+in_ok-so_far, else-rule-state}
 
 pub returns-then-depth-course : goal.returns-then-depth-course
 returns-then-depth-course g t c =
@@ -26,9 +26,9 @@ returns-then-depth-course g t c =
     let ws = map (within F.outputs) (take d c.args.path.now) in
     let whole : d - 0 ≡ d = omega arith in
     record {
-      adds = subst (λ ls. Adds c.args.counts ls c.args.rules.now c.add-rule.new.rules c.args.outputs.now c.add-rule.new.outputs c.add-rule.result)
+      adds = subst (λ ls. Adds c.args.counts ls c.args.rules.now c.add_rule.new.rules c.args.outputs.now c.add_rule.new.outputs c.add_rule.result)
           (sym (ways_done m (lines_of F) c.args.course.now.number ts ws d c.args.state c.args.guard c.if-depth-course.true))
-          (subst (λ n. Adds c.args.counts (whole_line c.args.course.now.number (along m ts (map (within F.outputs) (take n c.args.path.now))) c.args.state c.args.guard ∷ []) c.args.rules.now c.add-rule.new.rules c.args.outputs.now c.add-rule.new.outputs c.add-rule.result) whole c.add-rule.ensures);
+          (subst (λ n. Adds c.args.counts (whole_line c.args.course.now.number (along m ts (map (within F.outputs) (take n c.args.path.now))) c.args.state c.args.guard ∷ []) c.args.rules.now c.add_rule.new.rules c.args.outputs.now c.add_rule.new.outputs c.add_rule.result) whole c.add_rule.ensures);
       keeps = refl;
     }
 
@@ -57,7 +57,7 @@ narrowed-requires g t c = record {
 pub loop-rule-preserved-in_default : goal.loop-rule-preserved-in_default
 loop-rule-preserved-in_default g t c =
     going_skip _ _ _ _ _ _ _ _ _ _ _ _ _ _ _ _ _ _ _ c.loop-rule.invariant c.rule-item.result c.loop-rule-test.true c.rule-item.is
-    (by_empty g.A.Alphabet.model _ _ _ _ _ _ (sym c.narrowed.ensures ∙ c.in-default.is))
+    (by_empty g.A.Alphabet.model _ _ _ _ _ _ (sym c.narrowed.ensures ∙ c.in_default.is))
 
 pub add_ways-requires : goal.add_ways-requires
 add_ways-requires g t c κs inside =
@@ -126,20 +126,20 @@ returns-in_err-so_far g t c =
     let size : (start + r.outputs) - start ≡ r.outputs = omega arith in
     let here : eqb r.state c.args.state ≡ true = grind (arith, nat_tests) in
     let acc = along_on m F.outputs ts c.args.path.now c.loop-rule.path d span x 0 c.if-depth-course.false (omega arith) I.kept (take r.outputs (drop start F.outputs)) (ap (λ n. take n (drop start F.outputs)) size) in
-    let over = c.in-err-so-far.ensures.adds in
-    let p = err_from_is_err_and c.from-residual.result c.from-residual.ensures.1 in
+    let over = c.in_err-so_far.ensures.adds in
+    let p = err_from_is_err_and c.from_residual.result c.from_residual.ensures.1 in
     let e = drop_more ts d x c.if-depth-course.false in
     record {
       adds = rw p.1 (subst (λ l. Fits c.args.counts (map (raw_line k (along m (take d ts) (map (within F.outputs) (take d c.args.path.now)))) (ways m (lines_of F) l c.args.state c.args.guard)) c.args.rules.now c.args.outputs.now → ⊥) (sym e)
           (going_refused _ _ _ _ _ _ _ _ _ _ _ _ _ _ _ _ _ _ _ I r c.loop-rule-test.true c.rule-item.is W
           (by_some m _ _ _ _ _ _ c.in-Some.narrower here (sym c.narrowed.ensures ∙ c.in-Some.is))
           (subst (λ o. Fits c.loop-rule.so_far (map (raw_line k o) W) c.loop-rule.rules c.loop-rule.outputs → ⊥) acc over)));
-      keeps = path_kept m F.outputs ts c.args.path.now c.loop-rule.path d span x 0 c.if-depth-course.false (omega arith) I.kept c.add-ways.new.path c.in-err-so-far.ensures.keeps;
+      keeps = path_kept m F.outputs ts c.args.path.now c.loop-rule.path d span x 0 c.if-depth-course.false (omega arith) I.kept c.add_ways.new.path c.in_err-so_far.ensures.keeps;
     }
 
 pub loop-rule-preserved : goal.loop-rule-preserved
 loop-rule-preserved g t c = elim c.if-rule-state.branch [
-  | then-rule-state+in-Some+in-ok-so-far w ↦
+  | then-rule-state+in-Some+in_ok-so_far w ↦
       let m = g.A.Alphabet.model in
       let F = table_of c.args.course.now.second.now in
       let ts = c.args.course.now.terms.now in
@@ -154,15 +154,15 @@ loop-rule-preserved g t c = elim c.if-rule-state.branch [
       let size : (start + r.outputs) - start ≡ r.outputs = omega arith in
       let here : eqb r.state c.args.state ≡ true = grind (arith, nat_tests) in
       let acc = along_on m F.outputs ts c.args.path.now c.loop-rule.path d span x 0 c.if-depth-course.false (omega arith) I.kept (take r.outputs (drop start F.outputs)) (ap (λ n. take n (drop start F.outputs)) size) in
-      let added = w.in-ok-so-far.ensures.adds in
-      rw (w.path-is, w.rules-is, w.outputs-is, w.so-far-is)
+      let added = w.in_ok-so_far.ensures.adds in
+      rw (w.path-is, w.rules-is, w.outputs-is, w.so_far-is)
       (going_on _ _ _ _ _ _ _ _ _ _ _ _ _ _ _ _ _ _ _ I r c.loop-rule-test.true c.rule-item.is W
       (by_some m _ _ _ _ _ _ w.in-Some.narrower here (sym w.narrowed.ensures ∙ w.in-Some.is)) _ _ _ _
-      (subst (λ o. Added c.loop-rule.so_far w.in-ok-so-far.so_far (map (raw_line k o) W) c.loop-rule.rules w.add-ways.new.rules c.loop-rule.outputs w.add-ways.new.outputs) acc added)
-      (path_kept m F.outputs ts c.args.path.now c.loop-rule.path d span x 0 c.if-depth-course.false (omega arith) I.kept w.add-ways.new.path w.in-ok-so-far.ensures.keeps))
+      (subst (λ o. Added c.loop-rule.so_far w.in_ok-so_far.so_far (map (raw_line k o) W) c.loop-rule.rules w.add_ways.new.rules c.loop-rule.outputs w.add_ways.new.outputs) acc added)
+      (path_kept m F.outputs ts c.args.path.now c.loop-rule.path d span x 0 c.if-depth-course.false (omega arith) I.kept w.add_ways.new.path w.in_ok-so_far.ensures.keeps))
   | else-rule-state w ↦
       let other : eqb c.rule-item.result.state c.args.state ≡ false = grind (arith, nat_tests) in
-      rw (w.path-is, w.rules-is, w.outputs-is, w.so-far-is)
+      rw (w.path-is, w.rules-is, w.outputs-is, w.so_far-is)
       (going_skip _ _ _ _ _ _ _ _ _ _ _ _ _ _ _ _ _ _ _ c.loop-rule.invariant c.rule-item.result c.loop-rule-test.true c.rule-item.is
       (by_other g.A.Alphabet.model _ _ _ _ _ _ other))
 ]

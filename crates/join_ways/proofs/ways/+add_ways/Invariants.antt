@@ -4,8 +4,8 @@ use Rattle.join_ways.specs.Paths.{within, along}
 use Rattle.join_ways.proofs.Goings.{Going}
 use Rattle.join_ways.proofs.ways.+add_ways.Given as goal
 
-abbrev pub decreases-add-ways : goal.decreases-add-ways
-decreases-add-ways g l = length l.course.now.terms.now - l.depth
+abbrev pub decreases-add_ways : goal.decreases-add_ways
+decreases-add_ways g l = length l.course.now.terms.now - l.depth
 
 abbrev pub invariant-loop-rule : goal.invariant-loop-rule
 invariant-loop-rule g l =
@@ -13,5 +13,5 @@ invariant-loop-rule g l =
     let F = table_of l.course.second.now in
     let ts = l.course.terms.now in
     let acc = along m (take l.depth ts) (map (within F.outputs) (take l.depth l.initial.path)) in
-    Going m F l.course.number acc (drop (l.depth + 1) ts) l.term l.state l.guard l.initial.so-far l.initial.rules l.initial.outputs l.depth l.initial.path
-    l.rule-index l.start l.so-far l.rules l.outputs l.path
+    Going m F l.course.number acc (drop (l.depth + 1) ts) l.term l.state l.guard l.initial.so_far l.initial.rules l.initial.outputs l.depth l.initial.path
+    l.rule-index l.start l.so_far l.rules l.outputs l.path
