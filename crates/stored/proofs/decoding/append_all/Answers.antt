@@ -12,8 +12,8 @@ use Rattle.stored.proofs.decoding.append_all.Goals as goal
 
 pub append-body-requires : goal.append-body-requires
 append-body-requires g c =
-    let guard = g.Guard.GuardRecord.code in
-    let term = g.Term.Record.code in
+    let guard = g.A.Guard.GuardRecord.code in
+    let term = g.A.Term.Record.code in
     let file = c.args.reader.now.file.now in
     let b = c.in-Some.body in
     let e = c.in-Some.ensures in
@@ -31,8 +31,8 @@ append-body-requires g c =
 
 pub loop-body-preserved : goal.loop-body-preserved
 loop-body-preserved g c =
-    let guard = g.Guard.GuardRecord.code in
-    let term = g.Term.Record.code in
+    let guard = g.A.Guard.GuardRecord.code in
+    let term = g.A.Term.Record.code in
     let file = c.args.reader.now.file.now in
     let b = c.in-Some.body in
     let e = c.in-Some.ensures in
@@ -44,8 +44,8 @@ loop-body-preserved g c =
 
 pub returns : goal.returns
 returns g c =
-    let guard = g.Guard.GuardRecord.code in
-    let term = g.Term.Record.code in
+    let guard = g.A.Guard.GuardRecord.code in
+    let term = g.A.Term.Record.code in
     let file = c.args.reader.now.file.now in
     let i = c.loop-body.i in
     let M = memory_of c.args.shelf.now in

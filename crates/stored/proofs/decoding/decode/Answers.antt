@@ -11,8 +11,8 @@ use Rattle.stored.proofs.decoding.decode.Goals as goal
 
 pub returns-in-err-check-room : goal.returns-in-err-check-room
 returns-in-err-check-room g c =
-    let guard = g.Guard.GuardRecord.code in
-    let term = g.Term.Record.code in
+    let guard = g.A.Guard.GuardRecord.code in
+    let term = g.A.Term.Record.code in
     let k = g.A.Stored.number in
     let file = c.args.file.now in
     let x = c.in-ok-reader.reader.file.now in
@@ -35,8 +35,8 @@ returns-in-err-check-room g c =
 
 pub append-all-requires : goal.append-all-requires
 append-all-requires g c =
-    let guard = g.Guard.GuardRecord.code in
-    let term = g.Term.Record.code in
+    let guard = g.A.Guard.GuardRecord.code in
+    let term = g.A.Term.Record.code in
     let k = g.A.Stored.number in
     let file = c.args.file.now in
     let x = c.in-ok-reader.reader.file.now in
@@ -54,8 +54,8 @@ append-all-requires g c =
 
 pub returns : goal.returns
 returns g c =
-    let guard = g.Guard.GuardRecord.code in
-    let term = g.Term.Record.code in
+    let guard = g.A.Guard.GuardRecord.code in
+    let term = g.A.Term.Record.code in
     let k = g.A.Stored.number in
     let file = c.args.file.now in
     let x = c.in-ok-reader.reader.file.now in
@@ -68,10 +68,10 @@ returns g c =
     let room = sym (ap (room_for M) head) ∙ sym c.check-room.ensures ∙ c.in-ok-check-room.was in
     let means = read_parsed guard term k file x e in
     let bytes = All-from_get_or (λ b. b < 256) file 0 (λ i h. (c.type-inv.file i).fits) in
-    let laws = g.Guard.GuardRecord.laws in
-    let wide = g.Guard.GuardRecord.wide in
-    let free = g.Guard.GuardRecord.free in
-    let terms = g.Term.Record.laws in
+    let laws = g.A.Guard.GuardRecord.laws in
+    let wide = g.A.Guard.GuardRecord.wide in
+    let free = g.A.Guard.GuardRecord.free in
+    let terms = g.A.Term.Record.laws in
     record {
       answer = sym (ap (decoded M) means ∙ room);
       memory = c.append-all.ensures ∙ sym (ap (decoded_memory M) means ∙ ap (λ (r : Result Unit StoredFault). cond (is_ok r) (shelved M (tables_of_file guard term x)) M) room);
