@@ -5,9 +5,9 @@ use Rattle.steps.specs.Steps.{text}
 use Rattle.placing.proofs.Decisions.{decided}
 use Rattle.placing.proofs.doubles.are_equivalent.Goals as goal
 
-pub returns-in-default : goal.returns-in-default
-returns-in-default g c =
-    let short = c.in-default.ensures.answer in
+pub returns-in_default : goal.returns-in_default
+returns-in_default g c =
+    let short = c.in_default.ensures.answer in
     let enough = c.requires.enough in
     let room = c.new-queue.ensures.room in
     absurd (grind (arith, short, enough, room))

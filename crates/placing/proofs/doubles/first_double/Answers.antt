@@ -12,8 +12,8 @@ pub view-view-requires : goal.view-view-requires
 view-view-requires g c =
     record { fits = readable_fits g.A.Alphabet.model (memory_of c.args.shelf.now) c.requires.readable; within = c.loop-i-test.true }
 
-pub are-equivalent-requires : goal.are-equivalent-requires
-are-equivalent-requires g c =
+pub are_equivalent-requires : goal.are_equivalent-requires
+are_equivalent-requires g c =
     let m = g.A.Alphabet.model in
     let M = memory_of c.args.shelf.now in
     let F = table_of c.args.draft.now in
@@ -24,15 +24,15 @@ are-equivalent-requires g c =
       enough = (omega (arith, all.0), omega (arith, all.1));
     }
 
-pub returns-then-are-equivalent : goal.returns-then-are-equivalent
-returns-then-are-equivalent g c =
+pub returns-then-are_equivalent : goal.returns-then-are_equivalent
+returns-then-are_equivalent g c =
     let P = Equivalent g.A.Alphabet.model (table_of c.args.draft.now) in
-    lowest_here (memory_of c.args.shelf.now) P c.loop-i.i c.loop-i.invariant (table_of c.view-view.result) c.view-view.ensures c.are-equivalent.result c.are-equivalent.ensures c.loop-i-test.true c.if-are-equivalent.true
+    lowest_here (memory_of c.args.shelf.now) P c.loop-i.i c.loop-i.invariant (table_of c.view-view.result) c.view-view.ensures c.are_equivalent.result c.are_equivalent.ensures c.loop-i-test.true c.if-are_equivalent.true
 
 pub loop-i-preserved : goal.loop-i-preserved
 loop-i-preserved g c =
     let P = Equivalent g.A.Alphabet.model (table_of c.args.draft.now) in
-    none_more (memory_of c.args.shelf.now) P c.loop-i.i c.loop-i.invariant (table_of c.view-view.result) c.view-view.ensures c.are-equivalent.result c.are-equivalent.ensures c.if-are-equivalent.false
+    none_more (memory_of c.args.shelf.now) P c.loop-i.i c.loop-i.invariant (table_of c.view-view.result) c.view-view.ensures c.are_equivalent.result c.are_equivalent.ensures c.if-are_equivalent.false
 
 pub returns : goal.returns
 returns g c =

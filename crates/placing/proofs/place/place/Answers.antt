@@ -10,19 +10,19 @@ use Rattle.placing.proofs.place.place.Goals as goal
 pub returns-in-Some : goal.returns-in-Some
 returns-in-Some g c = short_scratch c.in-Some.number c.in-Some.ensures
 
-pub first-double-requires : goal.first-double-requires
-first-double-requires g c =
+pub first_double-requires : goal.first_double-requires
+first_double-requires g c =
     let S = scratch_of (length c.args.steps.now) (length c.args.symbols.now) in
     record {
       readable = c.requires.readable;
       sound = c.requires.sound;
-      enough = long_enough g.A.Alphabet.model S (memory_of c.args.shelf.now) (table_of c.args.draft.now) c.in-default.ensures;
+      enough = long_enough g.A.Alphabet.model S (memory_of c.args.shelf.now) (table_of c.args.draft.now) c.in_default.ensures;
     }
 
-pub returns-in-Some-first-double : goal.returns-in-Some-first-double
-returns-in-Some-first-double g c =
+pub returns-in-Some-first_double : goal.returns-in-Some-first_double
+returns-in-Some-first_double g c =
     let S = scratch_of (length c.args.steps.now) (length c.args.symbols.now) in
-    double c.in-Some-first-double.number (long_enough g.A.Alphabet.model S (memory_of c.args.shelf.now) (table_of c.args.draft.now) c.in-default.ensures) c.in-Some-first-double.ensures
+    double c.in-Some-first_double.number (long_enough g.A.Alphabet.model S (memory_of c.args.shelf.now) (table_of c.args.draft.now) c.in_default.ensures) c.in-Some-first_double.ensures
 
 pub append-requires : goal.append-requires
 append-requires g c = record {
@@ -33,11 +33,11 @@ append-requires g c = record {
 pub returns-else-append : goal.returns-else-append
 returns-else-append g c =
     let S = scratch_of (length c.args.steps.now) (length c.args.symbols.now) in
-    placed_full g.A.Alphabet.model S (memory_of c.args.shelf.now) (table_of c.args.draft.now) c.in-default.ensures c.in-default-first-double.ensures
+    placed_full g.A.Alphabet.model S (memory_of c.args.shelf.now) (table_of c.args.draft.now) c.in_default.ensures c.in_default-first_double.ensures
     c.append.result c.append.ensures.answer (memory_of c.append.new.self) c.append.ensures.memory c.if-append.false
 
 pub returns-then-append : goal.returns-then-append
 returns-then-append g c =
     let S = scratch_of (length c.args.steps.now) (length c.args.symbols.now) in
-    placed_held g.A.Alphabet.model S (memory_of c.args.shelf.now) (table_of c.args.draft.now) c.in-default.ensures c.in-default-first-double.ensures
+    placed_held g.A.Alphabet.model S (memory_of c.args.shelf.now) (table_of c.args.draft.now) c.in_default.ensures c.in_default-first_double.ensures
     c.append.result c.append.ensures.answer (memory_of c.append.new.self) c.append.ensures.memory c.if-append.true

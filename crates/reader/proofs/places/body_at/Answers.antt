@@ -11,5 +11,5 @@ loop-j-preserved c =
     let j = c.loop-j.j in
     let within : j < at file 1 = omega (arith, c.requires.within) in
     let next = body_next file j within in
-    let size : c.size-of-place.result ≡ body_size (counts_at_lem file j) = c.size-of-place.ensures.size ∙ ap body_size c.counts-at.ensures in
+    let size : c.size_of-place.result ≡ body_size (counts_at_lem file j) = c.size_of-place.ensures.size ∙ ap body_size c.counts_at.ensures in
     (omega arith, omega arith)

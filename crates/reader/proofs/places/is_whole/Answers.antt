@@ -6,5 +6,5 @@ use Rattle.reader.proofs.places.is_whole.Goals as goal
 pub returns-then-bodies-rest : goal.returns-then-bodies-rest
 returns-then-bodies-rest c =
     let e = end_is c.args.file.now in
-    let s = c.body-at.ensures.place in
+    let s = c.body_at.ensures.place in
     grind (arith, nat_tests)

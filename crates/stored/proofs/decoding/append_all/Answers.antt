@@ -10,10 +10,10 @@ use Rattle.stored.proofs.Handed.{none_left, there, full}
 use Rattle.stored.proofs.Decodes.{number, has_ledger, has_states, has_rules, has_outputs, next_is}
 use Rattle.stored.proofs.decoding.append_all.Goals as goal
 
-pub append-body-requires : goal.append-body-requires
-append-body-requires g c =
-    let guard = g.Guard.GuardRecord.code in
-    let term = g.Term.Record.code in
+pub append_body-requires : goal.append_body-requires
+append_body-requires g c =
+    let guard = g.A.Guard.GuardRecord.code in
+    let term = g.A.Term.Record.code in
     let file = c.args.reader.now.file.now in
     let b = c.in-Some.body in
     let e = c.in-Some.ensures in
@@ -31,8 +31,8 @@ append-body-requires g c =
 
 pub loop-body-preserved : goal.loop-body-preserved
 loop-body-preserved g c =
-    let guard = g.Guard.GuardRecord.code in
-    let term = g.Term.Record.code in
+    let guard = g.A.Guard.GuardRecord.code in
+    let term = g.A.Term.Record.code in
     let file = c.args.reader.now.file.now in
     let b = c.in-Some.body in
     let e = c.in-Some.ensures in
@@ -40,14 +40,14 @@ loop-body-preserved g c =
     let M = memory_of c.args.shelf.now in
     let N = memory_of c.loop-body.shelf in
     let t = there file c.requires.file i b e in
-    (omega arith, c.append-body.ensures ∙ next_is guard term c.requires.five file c.requires.file i b e M N c.requires.room c.loop-body.invariant.1)
+    (omega arith, c.append_body.ensures ∙ next_is guard term c.requires.five file c.requires.file i b e M N c.requires.room c.loop-body.invariant.1)
 
 pub returns : goal.returns
 returns g c =
-    let guard = g.Guard.GuardRecord.code in
-    let term = g.Term.Record.code in
+    let guard = g.A.Guard.GuardRecord.code in
+    let term = g.A.Term.Record.code in
     let file = c.args.reader.now.file.now in
     let i = c.loop-body.i in
     let M = memory_of c.args.shelf.now in
-    let end : at file 1 ≤ i = none_left file c.requires.file i (ap shown (sym c.in-default.is) ∙ c.body.ensures) in
+    let end : at file 1 ≤ i = none_left file c.requires.file i (ap shown (sym c.in_default.is) ∙ c.body.ensures) in
     c.loop-body.invariant.1 ∙ ap (shelved M) (take_all i (tables_of_file guard term file) (omega (arith, number guard term c.requires.five file c.requires.file)))

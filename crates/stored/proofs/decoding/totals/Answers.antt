@@ -39,7 +39,7 @@ returns c =
     let file = c.args.reader.now.file.now in
     let i = c.loop-body.holdings in
     let n = contents_number file in
-    let end : at file 1 ≤ i = none_left file c.requires i (ap shown (sym c.in-default.is) ∙ c.body.ensures) in
+    let end : at file 1 ≤ i = none_left file c.requires i (ap shown (sym c.in_default.is) ∙ c.body.ensures) in
     let all = take_all i (contents file) (omega arith) in
     record {
       holdings = omega arith;
