@@ -1,8 +1,8 @@
 -- What the least shared symbol of two guards says of their sharing one.
-use Rattle.std.proofs.Common.{◌≡◌, ℕ, ◌<◌, true, false, not, is_some, Some, None, Option, arith}
+use Rattle.std.proofs.Common.{◌≡◌, ℕ, true, not, is_some, Some, None, Option, arith}
 use Rattle.alphabet.specs.Model.{Model, SoundGuard}
 use Rattle.alphabet.specs.Laws.{Lawful}
-use Rattle.alphabet.specs.Questions.{LeastFrom, every, both, shares}
+use Rattle.alphabet.specs.Questions.{LeastFrom, both, shares}
 use Rattle.alphabet.proofs.Bounded.{decides_every, every_fails}
 
 -- two guards share a symbol exactly where there is a least one

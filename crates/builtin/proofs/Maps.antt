@@ -1,9 +1,9 @@
 -- What the filters over bytes do, symbol by symbol and so for every text.
-use Rattle.std.proofs.Common.{◌≡◌, ℕ, ◌<◌, Bool, cond, List, [], ◌∷◌, ◌++◌, Some, None, sym, refl, ap, ◌∙◌, arith}
+use Rattle.std.proofs.Common.{◌≡◌, ℕ, Bool, cond, List, [], ◌∷◌, Some, None, refl, arith}
 use Rattle.std.specs.List.{flat_map}
 use Rattle.std.proofs.lemmas.List.{append-nil}
 use Rattle.std.proofs.lemmas.Bool.Decides.{nat_tests}
-use Rattle.machine.specs.Machine.{Machine, run, and_then, moved, prefixed, transduced}
+use Rattle.machine.specs.Machine.{Machine, run, transduced}
 use Rattle.range_laws.specs.Ranges.{ranges}
 use Rattle.filter.specs.Machines.{machine_of}
 use Rattle.builtin.specs.Bytes.{escape_table, lower_table, ascii_table, escaped, lowered, same, is_byte, is_printable, all_of, Maps}

@@ -1,5 +1,5 @@
 -- The tables of the filters over shelf marks.
-use Rattle.std.specs.Prelude.{ℕ, List, [], ◌∷◌}
+use Rattle.std.specs.Prelude.{ℕ, [], ◌∷◌}
 use Rattle.mark_laws.specs.declared.MarkSet.{MarkSet}
 use Rattle.mark_laws.specs.declared.MarkTerm.{MarkTerm}
 use Rattle.mark_laws.specs.declared.MarkTerm.TheVariants.{Turn}

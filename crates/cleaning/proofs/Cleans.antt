@@ -1,16 +1,15 @@
 -- A note that is measured with no output and then written into one of the length needed.
-use Rattle.std.proofs.Common.{◌≡◌, ℕ, ◌+◌, ◌≤◌, Bool, true, false, cond, leb, List, [], ◌∷◌, ◌++◌, length, drop, Some, None, Ok, Err, Option, Result, sym, refl, ap, ◌∙◌, subst, arith}
+use Rattle.std.proofs.Common.{◌≡◌, ℕ, ◌+◌, List, [], ◌++◌, length, drop, Some, None, Ok, Err, Option, sym, refl, ap, ◌∙◌, subst, arith}
 use Rattle.std.proofs.lemmas.List.{append-nil, drop_all, nil_from_length, length-append}
 use Rattle.std.proofs.lemmas.Bool.Decides.{nat_tests}
 use Rattle.machine.specs.Machine.{Machine}
 use Rattle.machine.specs.Walk.{position}
 use Rattle.alphabet.specs.Model.{Model}
 use Rattle.table.specs.Table.{Table}
-use Rattle.table.specs.Check.{Checked, checked}
+use Rattle.table.specs.Check.{Checked}
 use Rattle.filter.specs.declared.outcome.Outcome.{Outcome}
 use Rattle.filter.specs.declared.outcome.Outcome.TheVariants.{Written, Rejected}
 use Rattle.filter.specs.declared.outcome.TransduceFault.TheVariants.{ShortOutput}
-use Rattle.filter.specs.Machines.{machine_of}
 use Rattle.filter.specs.Meaning.{Writes}
 use Rattle.filter.specs.Outcomes.{ended, answer_at, answer_for}
 use Rattle.filter.specs.Promises.{after_check, Transduces}

@@ -1,9 +1,9 @@
 -- A turn of the search: the text of a step distinguishes, or its symbols are next.
-use Rattle.std.proofs.Common.{◌≡◌, ℕ, ◌+◌, ◌*◌, ◌<◌, ◌≤◌, Bool, true, false, cond, eqb, List, [], length, take, drop, Some, None, Option, sym, refl, ap, ◌∙◌, subst, mul-le-mul_right, arith}
+use Rattle.std.proofs.Common.{◌≡◌, ℕ, ◌+◌, ◌*◌, ◌<◌, ◌≤◌, Bool, true, false, cond, eqb, List, length, take, drop, Some, None, Option, sym, refl, ap, ◌∙◌, mul-le-mul_right, arith}
 use Rattle.std.specs.List.{slice_get}
 use Rattle.std.proofs.lemmas.List.{length-take}
 use Rattle.std.proofs.lemmas.Bool.{eqb-true, eqb-false}
-use Rattle.machine.specs.Machine.{Machine, run, and_then, prefixed, transduced, Distinguishes}
+use Rattle.machine.specs.Machine.{Machine, run, and_then, prefixed, transduced}
 use Rattle.machine.specs.Sides.{state_of, output_of}
 use Rattle.machine.specs.Compared.{Told}
 use Rattle.machine.specs.Texts.{texts}
@@ -21,11 +21,11 @@ use Rattle.steps.specs.Places.{steps_needed_lem}
 use Rattle.steps.proofs.Texts.{text_short, texts_count}
 use Rattle.steps.proofs.Placing.{place_room}
 use Rattle.replay.specs.Replays.{output_by, whole_by, Stands, RoomFor, Attached, Agrees}
-use Rattle.replay.specs.Sizes.{finals_of_lem, most_of, longest_of}
+use Rattle.replay.specs.Sizes.{finals_of_lem, longest_of}
 use Rattle.moves.proofs.Full.{most_least}
 use Rattle.judging.specs.declared.frame.Frame.{Frame}
 use Rattle.judging.specs.Frames.{Framed}
-use Rattle.judging.specs.Kept.{Kept, Going, Turned}
+use Rattle.judging.specs.Kept.{Going, Turned}
 use Rattle.equivalence.specs.Answers.{Early}
 use Rattle.trying.proofs.Extending.{total_more}
 use Rattle.judging.proofs.Judging.{step_attached}

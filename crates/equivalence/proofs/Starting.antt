@@ -1,5 +1,5 @@
 -- The step of the empty text.
-use Rattle.std.proofs.Common.{◌≡◌, ℕ, zero, suc, ◌+◌, ◌*◌, ◌<◌, ◌≤◌, List, [], ◌∷◌, length, get_or, set, Some, sym, refl, ap, ◌∙◌, subst, mul-le-mul_left, zero-mul, mul-one, arith}
+use Rattle.std.proofs.Common.{◌≡◌, ℕ, zero, suc, ◌+◌, ◌*◌, ◌<◌, ◌≤◌, List, [], ◌∷◌, length, get_or, set, sym, refl, ap, ◌∙◌, subst, mul-le-mul_left, zero-mul, mul-one, arith}
 use Rattle.std.proofs.lemmas.List.{get_or-set_same}
 use Rattle.machine.specs.Machine.{run}
 use Rattle.machine.specs.Explored.{Ready}
@@ -8,14 +8,12 @@ use Rattle.machine.proofs.Texts.{texts_root}
 use Rattle.alphabet.specs.Model.{Model}
 use Rattle.table.specs.Table.{Table}
 use Rattle.filter.specs.Machines.{machine_of}
-use Rattle.steps.specs.declared.step.Step.{Step}
-use Rattle.steps.specs.declared.step.Hand.{Hand}
 use Rattle.steps.specs.declared.step.Hand.TheVariants.{Left, Right}
 use Rattle.steps.specs.Steps.{at, side_of, text}
-use Rattle.steps.specs.Places.{place_at, Placed}
+use Rattle.steps.specs.Places.{place_at}
 use Rattle.steps.proofs.Texts.{text_zero}
 use Rattle.replay.specs.Replays.{output_by, Stands, Traced}
-use Rattle.judging.specs.Kept.{Kept, Turned}
+use Rattle.judging.specs.Kept.{Turned}
 use Rattle.equivalence.specs.Answers.{root_side, root_step}
 
 -- what holds of the one step holds of each

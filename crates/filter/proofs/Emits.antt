@@ -1,10 +1,9 @@
 -- Writing the values of terms, one after another: one turn of the loop.
-use Rattle.std.proofs.Common.{◌≡◌, ℕ, ◌+◌, ◌<◌, ◌≤◌, List, [], ◌∷◌, ◌++◌, length, get_or, drop, set, Some, None, Option, sym, refl, ap, ◌∙◌, arith}
+use Rattle.std.proofs.Common.{◌≡◌, ℕ, ◌+◌, ◌<◌, ◌≤◌, List, [], ◌∷◌, ◌++◌, length, get_or, drop, Some, None, Option, sym, ap, ◌∙◌, arith}
 use Rattle.std.specs.Option.{option_to_list}
 use Rattle.std.proofs.lemmas.List.{at_drop_more, length-append}
 use Rattle.alphabet.specs.Model.{Model}
 use Rattle.filter.specs.Machines.{values_of}
-use Rattle.filter.specs.Outcomes.{put}
 
 module _ {G T : Type 0} (m : Model G T) (ts : List T) (s i : ℕ) (t : T) (within : i < length ts) (read : t ≡ get_or ts i t) where
   -- the values from the term at i on

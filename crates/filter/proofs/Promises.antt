@@ -1,5 +1,5 @@
 -- From the answer of transducing to what it promises.
-use Rattle.std.proofs.Common.{◌≡◌, ℕ, ◌<◌, ◌≤◌, Bool, true, false, cond, leb, List, ◌++◌, length, drop, Some, None, Ok, Err, Option, Result, sym, refl, ap, ◌∙◌, subst, arith}
+use Rattle.std.proofs.Common.{◌≡◌, ℕ, ◌≤◌, leb, List, ◌++◌, length, Some, None, Ok, Err, Option, Result, sym, refl, ap, ◌∙◌, subst, arith}
 use Rattle.std.proofs.lemmas.Bool.{cond_both, leb-true, leb-false}
 use Rattle.machine.specs.Machine.{Machine, run, and_then, transduced, prefixed}
 use Rattle.machine.specs.Walk.{position}
@@ -10,14 +10,14 @@ use Rattle.table.specs.Check.{Checked, checked}
 use Rattle.table.specs.Sound.{Sound}
 use Rattle.table.proofs.Soundness.{sound_from_checked}
 use Rattle.filter.specs.declared.outcome.Outcome.{Outcome}
-use Rattle.filter.specs.declared.outcome.Outcome.TheVariants.{Written, Rejected}
+use Rattle.filter.specs.declared.outcome.Outcome.TheVariants.{Written}
 use Rattle.filter.specs.declared.outcome.TransduceFault.{TransduceFault}
-use Rattle.filter.specs.declared.outcome.TransduceFault.TheVariants.{Unsound, LongText, ShortOutput}
+use Rattle.filter.specs.declared.outcome.TransduceFault.TheVariants.{LongText, ShortOutput}
 use Rattle.filter.specs.Agrees.{Agrees}
 use Rattle.filter.specs.Machines.{machine_of}
 use Rattle.filter.specs.Meaning.{Writes}
 use Rattle.filter.specs.Outcomes.{closed, ended, answer_at, answer_for, output_after}
-use Rattle.filter.specs.Promises.{after_check, Worked, Transduces}
+use Rattle.filter.specs.Promises.{after_check, Transduces}
 use Rattle.filter.proofs.Moves.{some_before}
 use Rattle.filter.proofs.Meanings.{agrees, run_paths, is_final, rejected_writes_nothing}
 use Rattle.filter.proofs.Rejections.{rejected_at}

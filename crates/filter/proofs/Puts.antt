@@ -1,5 +1,5 @@
 -- Writing into a list from a place on: in two parts, and where all of it has room.
-use Rattle.std.proofs.Common.{◌≡◌, ℕ, ◌+◌, ◌<◌, ◌≤◌, List, [], ◌∷◌, ◌++◌, length, drop, set, sym, refl, ap, ◌∙◌, add-one, arith}
+use Rattle.std.proofs.Common.{◌≡◌, ℕ, ◌+◌, ◌≤◌, List, [], ◌∷◌, ◌++◌, length, drop, set, refl, ap, ◌∙◌, add-one, arith}
 use Rattle.filter.specs.Outcomes.{put}
 
 pub put_append : (n : ℕ) (v w o : List ℕ) → put n (v ++ w) o ≡ put (n + length v) w (put n v o)

@@ -1,15 +1,13 @@
 -- From the walk and the final output to the answer of transducing, over any machine.
-use Rattle.std.proofs.Common.{◌≡◌, ℕ, ◌+◌, ◌<◌, ◌≤◌, true, false, cond, leb, List, [], ◌∷◌, ◌++◌, length, drop, Some, None, Ok, Err, Option, Result, sym, refl, ap, ◌∙◌, arith}
+use Rattle.std.proofs.Common.{◌≡◌, ℕ, ◌+◌, ◌<◌, ◌≤◌, List, ◌++◌, length, drop, Some, None, Ok, Err, Option, sym, refl, ap, ◌∙◌, arith}
 use Rattle.std.proofs.lemmas.List.{length-append}
 use Rattle.std.proofs.lemmas.Bool.{le-leb, lt-leb}
-use Rattle.machine.specs.Machine.{Machine, run, and_then}
+use Rattle.machine.specs.Machine.{Machine, run}
 use Rattle.machine.specs.Walk.{position, written}
 use Rattle.machine.proofs.Walks.{run_through}
-use Rattle.filter.specs.declared.outcome.Outcome.{Outcome}
 use Rattle.filter.specs.declared.outcome.Outcome.TheVariants.{Written, Rejected}
-use Rattle.filter.specs.declared.outcome.TransduceFault.{TransduceFault}
-use Rattle.filter.specs.declared.outcome.TransduceFault.TheVariants.{LongText, ShortOutput}
-use Rattle.filter.specs.Outcomes.{put, end_of, walked, behind, finished, ended, answer_at, answer_for, output_after}
+use Rattle.filter.specs.declared.outcome.TransduceFault.TheVariants.{ShortOutput}
+use Rattle.filter.specs.Outcomes.{put, end_of, walked, behind, ended, answer_at, answer_for, output_after}
 use Rattle.filter.proofs.Puts.{put_append, put_front}
 
 -- what a place behind a final output tells of it

@@ -3,7 +3,6 @@ use Rattle.std.specs.Prelude.{ℕ, ◌+◌, ◌≤◌, cond, List, [], ◌∷◌
 use Rattle.machine.specs.Machine.{Machine, run, and_then}
 use Rattle.machine.specs.Walk.{position}
 use Rattle.table.specs.declared.fault.FaultCode.{FaultCode}
-use Rattle.table.specs.declared.fault.TableFault.{TableFault}
 use Rattle.table.specs.Faults.{code_of}
 use Rattle.filter.specs.declared.outcome.Outcome.{Outcome}
 use Rattle.filter.specs.declared.outcome.Outcome.TheVariants.{Written, Rejected}

@@ -1,9 +1,9 @@
 -- The parts of the joined filter, put together.
-use Rattle.std.proofs.Common.{◌≡◌, ℕ, ◌+◌, ◌-◌, ◌<◌, ◌≤◌, min, List, [], ◌∷◌, ◌++◌, map, length, take, drop, Ok, Err, Option, Result, sym, refl, ap, ◌∙◌, subst, append_assoc, arith}
+use Rattle.std.proofs.Common.{◌≡◌, ℕ, ◌+◌, ◌≤◌, min, List, [], ◌∷◌, ◌++◌, map, length, take, drop, Ok, Err, Option, Result, sym, refl, ap, ◌∙◌, append_assoc, arith}
 use borrow.Rule.Slice.PartMut.{put_mid, post_of}
 use Rattle.std.specs.List.{AllByRecursion}
 use Rattle.std.proofs.ByRecursion.{All-map}
-use Rattle.std.proofs.lemmas.List.{length-append, length-map, take_at, drop_at, drop-drop, drop-append-le, length-take-le, take-append-drop}
+use Rattle.std.proofs.lemmas.List.{length-append, length-map, take_at, drop_at, drop-append-le, length-take-le, take-append-drop}
 use Rattle.alphabet.specs.Model.{Model}
 use Rattle.table.specs.declared.entries.State.{State}
 use Rattle.table.specs.declared.entries.Rule.{Rule}
@@ -19,7 +19,7 @@ use Rattle.join_ways.specs.declared.write.TooLarge.{TooLarge}
 use Rattle.join_ways.specs.declared.write.Counts.{Counts}
 use Rattle.join_ways.specs.Written.{spliced}
 use Rattle.join_ways.specs.Added.{outputs_of_lem, Fits, Added}
-use Rattle.join_ways.proofs.Splices.{splice_more, splice_length, take_spliced, drop_spliced}
+use Rattle.join_ways.proofs.Splices.{splice_more, splice_length}
 use Rattle.join_states.specs.Ended.{Room}
 use Rattle.join.specs.declared.Sizes.{Sizes}
 use Rattle.join.specs.Filled.{Fitting, Written, Fills, Roomy, Begun, Answers}

@@ -1,7 +1,6 @@
 -- The joined filter in the lists that were handed in.
 use Rattle.std.specs.Prelude.{◌≡◌, ℕ, ◌≤◌, List, ◌++◌, length, drop, Ok, Err, Result}
 use Rattle.std.specs.List.{AllByRecursion}
-use Rattle.alphabet.specs.Model.{Model}
 use Rattle.table.specs.declared.entries.State.{State}
 use Rattle.table.specs.declared.entries.Rule.{Rule}
 use Rattle.table.specs.Table.{Table}

@@ -1,12 +1,12 @@
 -- A sound filter writes at most 32 symbols at a symbol, and at an end.
-use Rattle.std.proofs.Common.{◌≡◌, ℕ, ◌+◌, ◌<◌, ◌≤◌, Bool, true, false, cond, eqb, List, [], ◌∷◌, length, take, drop, Some, None, sum_by, Option, sym, refl, ap, ◌∙◌, subst, arith}
+use Rattle.std.proofs.Common.{◌≡◌, ℕ, ◌≤◌, Bool, true, false, cond, eqb, List, length, take, drop, Some, None, sum_by, Option, sym, refl, ap, subst, arith}
 use Rattle.std.specs.List.{slice_get, AllByRecursion}
 use Rattle.std.proofs.lemmas.List.{length-take}
 use Rattle.machine.specs.Machine.{and_then}
 use Rattle.alphabet.specs.Model.{Model}
 use Rattle.table.specs.declared.entries.State.{State}
 use Rattle.table.specs.declared.entries.Rule.{Rule}
-use Rattle.table.specs.Table.{Table, stretch, final_outputs, all_rule_outputs, rule_outputs}
+use Rattle.table.specs.Table.{Table, stretch, final_outputs, all_rule_outputs}
 use Rattle.table.specs.Sound.{Sound}
 use Rattle.table.proofs.Places.{all_from_at_each}
 use Rattle.filter.specs.Machines.{values_of, machine_of}

@@ -1,18 +1,18 @@
 -- One symbol of the run over constants, and the end of it.
-use Rattle.std.proofs.Common.{◌≡◌, ℕ, ◌+◌, ◌-◌, ◌*◌, ◌<◌, ◌≤◌, Bool, true, false, cond, List, [], ◌∷◌, ◌++◌, length, get_or, take, drop, Some, None, Ok, Err, Option, Result, sym, refl, ap, ◌∙◌, subst, append_assoc, append-nil, arith}
+use Rattle.std.proofs.Common.{◌≡◌, ℕ, ◌+◌, ◌-◌, ◌<◌, ◌≤◌, List, [], ◌∷◌, ◌++◌, length, get_or, take, drop, Some, None, Ok, Err, Option, Result, sym, refl, ap, ◌∙◌, append_assoc, append-nil, arith}
 use borrow.Rule.Slice.PartMut.{put_mid, post_of}
 use Rattle.std.specs.Option.{option_to_list}
 use Rattle.std.proofs.lemmas.List.{take_more, take-append-drop, drop_more, take_at, length-append, length-take-le, length-drop, take_rest}
 use Rattle.machine.specs.Machine.{Machine, and_then, moved, prefixed, run, transduced_from}
 use Rattle.machine.specs.Walk.{or_else, position, written}
-use Rattle.machine.proofs.Runs.{run_append, run_push}
+use Rattle.machine.proofs.Runs.{run_append}
 use Rattle.alphabet.specs.Model.{Model}
 use Rattle.filter.specs.Machines.{values_of}
 use Rattle.filter.specs.Outcomes.{put, end_of, walked, behind, finished}
 use Rattle.filter.proofs.Puts.{put_append, put_front}
 use Rattle.join_laws.proofs.Ways.{values_append}
 use Rattle.join_finals.specs.Finals.{Ends}
-use Rattle.join_finals.proofs.Short.{Short, ShortEnd}
+use Rattle.join_finals.proofs.Short.{ShortEnd}
 
 ok_parts : (a b : ℕ × ℕ) → ◌≡◌ {A = Result (ℕ × ℕ) ℕ} (Ok a) (Ok b) → (a.0 ≡ b.0) × (a.1 ≡ b.1)
 ok_parts a b e = let k : a ≡ b = cc in (ap (λ (x : ℕ × ℕ). x.0) k, ap (λ (x : ℕ × ℕ). x.1) k)

@@ -4,7 +4,7 @@ use Rattle.std.specs.List.{AllByRecursion}
 use Rattle.std.proofs.ByRecursion.{All-map}
 use Rattle.std.proofs.lemmas.List.{length-map, get_or-map}
 use Rattle.machine.specs.Machine.{and_then, transduced}
-use Rattle.machine.specs.Composed.{step_both, final_both, renamed, Composes}
+use Rattle.machine.specs.Composed.{renamed, Composes}
 use Rattle.machine.proofs.Composed.{composes_transduced}
 use Rattle.alphabet.specs.Model.{Model}
 use Rattle.alphabet.specs.Laws.{Lawful}
@@ -12,15 +12,15 @@ use Rattle.table.specs.Table.{Table}
 use Rattle.table.specs.Sound.{Sound}
 use Rattle.filter.specs.Machines.{values_of, machine_of}
 use Rattle.join_laws.specs.Lists.{first}
-use Rattle.join_laws.specs.Lines.{Line, lines_of, table_from, goes, move}
-use Rattle.join_laws.specs.Ways.{Way, hits, takes, taken}
-use Rattle.join_laws.specs.Pairs.{Pair, place, explored}
+use Rattle.join_laws.specs.Lines.{table_from, goes, move}
+use Rattle.join_laws.specs.Ways.{Way, hits, takes}
+use Rattle.join_laws.specs.Pairs.{Pair, place}
 use Rattle.join_laws.specs.Joined.{numbered, lines_for, ways_at, targets_at, final_at, pairs, joined}
 use Rattle.join_laws.proofs.Firsts.{mapped, first_all}
 use Rattle.join_laws.proofs.Lines.{step_is}
-use Rattle.join_laws.proofs.Pairs.{Within, pair_step, targets_within}
+use Rattle.join_laws.proofs.Pairs.{pair_step, targets_within}
 use Rattle.join_laws.proofs.Places.{In, Begins, begins_length, begins_at, at_place, few}
-use Rattle.join_laws.proofs.Explores.{Taken, Closed, taken_start, explored_taken, explored_begins}
+use Rattle.join_laws.proofs.Explores.{Taken, taken_start, explored_taken, explored_begins}
 use Rattle.join_laws.proofs.Tables.{Symbols, lines_same, final_same}
 use Rattle.join_laws.proofs.Symbols.{finals_inside}
 use Rattle.join_laws.proofs.Numbers.{lines_at}

@@ -1,9 +1,9 @@
 -- The exploration of pairs: it keeps the pairs that it has, and in the end no target is missing.
-use Rattle.std.proofs.Common.{◌≡◌, ℕ, zero, suc, ◌+◌, ◌-◌, ◌*◌, ◌<◌, ◌≤◌, Bool, true, false, cond, ltb, List, [], ◌∷◌, length, get_or, sym, refl, ap, ◌∙◌, subst, arith}
+use Rattle.std.proofs.Common.{◌≡◌, ℕ, zero, suc, ◌+◌, ◌*◌, ◌<◌, ◌≤◌, Bool, true, false, cond, ltb, List, [], ◌∷◌, length, get_or, sym, refl, ap, ◌∙◌, subst, arith}
 use Rattle.std.specs.List.{AllByRecursion}
 use Rattle.std.proofs.ByRecursion.{All-weaker, All-get_or}
 use Rattle.std.proofs.lemmas.Bool.Decides.{nat_tests}
-use Rattle.join_laws.specs.Pairs.{Pair, place, met, met_all, explored}
+use Rattle.join_laws.specs.Pairs.{Pair, met_all, explored}
 use Rattle.join_laws.proofs.Pairs.{Within}
 use Rattle.join_laws.proofs.Places.{In, Distinct, Begins, begins_refl, begins_trans, begins_length, begins_in, begins_at, met_all_begins, met_all_in, met_all_distinct, met_all_all, few}
 

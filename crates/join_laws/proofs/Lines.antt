@@ -1,22 +1,17 @@
 -- Tables line by line: the moves of a table are those of its lines, and a table made of lines has them.
-use Rattle.std.proofs.Common.{◌≡◌, ℕ, zero, suc, ◌+◌, ◌<◌, ◌≤◌, Bool, true, false, cond, ◌&&◌, eqb, List, [], ◌∷◌, ◌++◌, map, length, get_or, take, drop, Some, None, sum_by, Option, sym, refl, ap, ◌∙◌, subst, append_assoc, arith}
+use Rattle.std.proofs.Common.{◌≡◌, ℕ, zero, suc, ◌+◌, ◌<◌, Bool, true, false, cond, List, [], ◌∷◌, length, take, drop, Some, sym, refl, ap, ◌∙◌, subst, arith}
 use Rattle.std.specs.List.{slice_get, AllByRecursion}
-use Rattle.std.specs.Option.{option_to_list}
 use Rattle.std.proofs.ByRecursion.{All-weaker}
-use Rattle.std.proofs.lemmas.List.{take_at, drop_at, length-append, length-map}
-use Rattle.std.proofs.lemmas.List.Sums.{sum_by-cons}
 use Rattle.std.proofs.lemmas.Bool.Decides.{nat_tests}
 use Rattle.machine.specs.Machine.{and_then}
 use Rattle.alphabet.specs.Model.{Model, SoundGuard, SoundTerm}
-use Rattle.alphabet.specs.Laws.{Lawful}
-use Rattle.table.specs.declared.entries.State.{State}
 use Rattle.table.specs.declared.entries.Rule.{Rule}
-use Rattle.table.specs.Table.{Table, stretch, final_total_of, final_outputs, rule_outputs, all_rule_outputs}
-use Rattle.table.specs.Sound.{Sound, Suits, Constant}
-use Rattle.table.proofs.Places.{AtEach, all_from_at_each}
+use Rattle.table.specs.Table.{Table, stretch, rule_outputs, all_rule_outputs}
+use Rattle.table.specs.Sound.{Sound, Suits}
+use Rattle.table.proofs.Places.{all_from_at_each}
 use Rattle.filter.specs.Machines.{values_of, applies, pick, machine_of}
-use Rattle.join_laws.specs.Lists.{first, Alone, gathered}
-use Rattle.join_laws.specs.Lines.{Line, line_of, lines_from, lines_of, rule_of_lem, state_of, constants, table_from, fires, goes, move}
+use Rattle.join_laws.specs.Lists.{first, Alone}
+use Rattle.join_laws.specs.Lines.{Line, line_of, lines_from, lines_of, fires, goes, move}
 use Rattle.join_laws.proofs.Firsts.{alone_from_places}
 
 -- how many outputs a rule has

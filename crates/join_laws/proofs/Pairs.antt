@@ -1,16 +1,16 @@
 -- The ways of a pair: the first that holds a symbol is the step of both filters, no two hold the same symbol, and what
 -- they write has values where they hold.
-use Rattle.std.proofs.Common.{◌≡◌, ℕ, ◌<◌, Bool, true, false, cond, ◌&&◌, eqb, List, [], ◌∷◌, map, length, Some, None, Option, sym, refl, ap, ◌∙◌, arith}
+use Rattle.std.proofs.Common.{◌≡◌, ℕ, ◌<◌, Bool, true, false, cond, ◌&&◌, eqb, List, [], map, length, Some, None, Option, sym, refl, ap, ◌∙◌, arith}
 use Rattle.std.specs.List.{AllByRecursion}
 use Rattle.std.proofs.ByRecursion.{All-weaker, All-map}
-use Rattle.machine.specs.Machine.{Machine, and_then, run}
+use Rattle.machine.specs.Machine.{and_then, run}
 use Rattle.machine.specs.Composed.{beside, step_both}
 use Rattle.alphabet.specs.Model.{Model, SoundGuard, SoundTerm}
 use Rattle.alphabet.specs.Laws.{Lawful}
 use Rattle.table.specs.Table.{Table}
 use Rattle.table.specs.Sound.{Sound}
 use Rattle.filter.specs.Machines.{values_of, machine_of}
-use Rattle.join_laws.specs.Lists.{first, Alone, gathered}
+use Rattle.join_laws.specs.Lists.{first, Alone}
 use Rattle.join_laws.specs.Lines.{Line, lines_of, fires, goes}
 use Rattle.join_laws.specs.Ways.{Way, ways, hits, takes, taken}
 use Rattle.join_laws.specs.Pairs.{Pair}

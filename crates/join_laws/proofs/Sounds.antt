@@ -1,24 +1,24 @@
 -- The joined filter is sound wherever it is within the limits.
-use Rattle.std.proofs.Common.{◌≡◌, ℕ, zero, suc, ◌+◌, ◌<◌, ◌≤◌, Bool, true, false, ◌&&◌, eqb, List, [], ◌∷◌, ◌++◌, map, length, get_or, Some, None, Option, sym, refl, ap, ◌∙◌, subst, arith}
+use Rattle.std.proofs.Common.{◌≡◌, ℕ, zero, suc, ◌<◌, ◌≤◌, true, false, ◌&&◌, List, [], ◌∷◌, map, length, get_or, Some, None, Option, sym, refl, ap, ◌∙◌, subst, arith}
 use Rattle.std.specs.List.{slice_get, AllByRecursion}
 use Rattle.std.proofs.ByRecursion.{All-weaker, All-map, All-from_get_or}
 use Rattle.std.proofs.lemmas.List.{length-map, length-append}
 use Rattle.std.proofs.lemmas.Bool.Decides.{nat_tests}
-use Rattle.alphabet.specs.Model.{Model, SoundGuard, SoundTerm}
+use Rattle.alphabet.specs.Model.{Model, SoundGuard}
 use Rattle.alphabet.specs.Laws.{Lawful}
 use Rattle.table.specs.declared.entries.State.{State}
 use Rattle.table.specs.declared.entries.Rule.{Rule}
-use Rattle.table.specs.Table.{Table, stretch, final_total_of, rule_total_of, rule_outputs, all_rule_outputs}
+use Rattle.table.specs.Table.{Table, stretch, rule_outputs}
 use Rattle.table.specs.Sound.{Sound, Suits, Constant}
 use Rattle.table.proofs.Places.{at_each_from_all}
-use Rattle.join_laws.specs.Lists.{Alone, gathered}
+use Rattle.join_laws.specs.Lists.{gathered}
 use Rattle.join_laws.specs.Lines.{Line, rule_of_lem, state_of, constants, table_from, fires}
-use Rattle.join_laws.specs.Ways.{Way, hits}
-use Rattle.join_laws.specs.Pairs.{Pair, place}
+use Rattle.join_laws.specs.Ways.{Way}
+use Rattle.join_laws.specs.Pairs.{Pair}
 use Rattle.join_laws.specs.Joined.{numbered, lines_for, ways_at, final_at, pairs, joined}
 use Rattle.join_laws.specs.Theorems.{Limited}
 use Rattle.join_laws.proofs.Firsts.{places_from_alone}
-use Rattle.join_laws.proofs.Lines.{width, Valued, Fits, Good}
+use Rattle.join_laws.proofs.Lines.{width, Fits, Good}
 use Rattle.join_laws.proofs.Pairs.{Within, GoodWay, pair_fit, pair_apart}
 use Rattle.join_laws.proofs.Places.{In, begins_length}
 use Rattle.join_laws.proofs.Tables.{outputs_of_lem, nth_map, stretch_line, rule_total_lem, final_total_lem, stretch_finals, rule_outputs_lem, Symbols}

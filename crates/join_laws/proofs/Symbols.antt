@@ -1,11 +1,10 @@
 -- A sound filter writes symbols only.
-use Rattle.std.proofs.Common.{◌≡◌, ℕ, ◌<◌, ◌≤◌, Bool, true, false, cond, ◌&&◌, eqb, List, [], ◌∷◌, ◌++◌, length, Some, None, Option, sym, refl, ap, ◌∙◌, subst, arith}
+use Rattle.std.proofs.Common.{◌≡◌, ℕ, ◌<◌, Bool, true, false, cond, ◌&&◌, eqb, List, [], ◌∷◌, ◌++◌, Some, None, Option, sym, refl, subst, arith}
 use Rattle.std.specs.List.{slice_get, AllByRecursion}
 use Rattle.std.specs.Option.{option_to_list}
 use Rattle.std.proofs.ByRecursion.{All-weaker, All-append}
-use Rattle.machine.specs.Machine.{Machine, and_then, prefixed, moved, run, transduced_from}
-use Rattle.machine.specs.Composed.{final_both}
-use Rattle.alphabet.specs.Model.{Model, SoundGuard, SoundTerm}
+use Rattle.machine.specs.Machine.{and_then, prefixed, moved, run, transduced_from}
+use Rattle.alphabet.specs.Model.{Model}
 use Rattle.alphabet.specs.Laws.{Lawful}
 use Rattle.table.specs.declared.entries.State.{State}
 use Rattle.table.specs.Table.{Table, final_outputs}
@@ -16,7 +15,7 @@ use Rattle.join_laws.specs.Lines.{Line, lines_of, fires, goes}
 use Rattle.join_laws.specs.Pairs.{Pair}
 use Rattle.join_laws.specs.Joined.{final_at}
 use Rattle.join_laws.proofs.Firsts.{first_passes, first_all}
-use Rattle.join_laws.proofs.Lines.{Valued, Fits, Good, lines_good, step_is}
+use Rattle.join_laws.proofs.Lines.{Valued, Fits, lines_good, step_is}
 use Rattle.join_laws.proofs.Tables.{Symbols}
 
 module _ {G T : Type 0} (m : Model G T) (law : Lawful m) where

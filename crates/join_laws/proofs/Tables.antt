@@ -1,5 +1,5 @@
 -- A table made of final outputs and lines has those final outputs and lines.
-use Rattle.std.proofs.Common.{◌≡◌, ℕ, zero, suc, ◌+◌, ◌<◌, ◌≤◌, true, false, cond, eqb, List, [], ◌∷◌, ◌++◌, map, length, get_or, take, drop, Some, None, Option, sym, refl, ap, ◌∙◌, subst, append_assoc, append-nil, arith}
+use Rattle.std.proofs.Common.{◌≡◌, ℕ, zero, suc, ◌<◌, cond, eqb, List, [], ◌∷◌, ◌++◌, map, length, get_or, take, drop, Some, None, Option, sym, refl, ap, ◌∙◌, append_assoc, arith}
 use Rattle.std.specs.List.{slice_get, AllByRecursion}
 use Rattle.std.specs.Option.{option_to_list}
 use Rattle.std.proofs.ByRecursion.{All-get_or}
@@ -9,8 +9,7 @@ use Rattle.machine.specs.Machine.{and_then}
 use Rattle.alphabet.specs.Model.{Model}
 use Rattle.alphabet.specs.Laws.{Lawful}
 use Rattle.table.specs.declared.entries.State.{State}
-use Rattle.table.specs.declared.entries.Rule.{Rule}
-use Rattle.table.specs.Table.{Table, stretch, final_total_of, rule_total_of, final_outputs, all_rule_outputs}
+use Rattle.table.specs.Table.{stretch, final_total_of, rule_total_of, all_rule_outputs}
 use Rattle.filter.specs.Machines.{values_of, machine_of}
 use Rattle.join_laws.specs.Lists.{gathered}
 use Rattle.join_laws.specs.Lines.{Line, line_of, lines_from, lines_of, rule_of_lem, state_of, constants, table_from}

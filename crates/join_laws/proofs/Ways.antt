@@ -1,10 +1,9 @@
 -- The ways through a sound filter: the first that holds a symbol is the filter's run there, no two hold the same symbol,
 -- and what they write has values where they hold.
-use Rattle.std.proofs.Common.{◌≡◌, ℕ, ◌<◌, Bool, true, false, cond, ◌&&◌, eqb, List, [], ◌∷◌, ◌++◌, map, Some, None, Option, sym, refl, ap, ◌∙◌, subst, append_assoc, arith}
+use Rattle.std.proofs.Common.{◌≡◌, ℕ, ◌<◌, Bool, true, false, cond, ◌&&◌, eqb, List, [], ◌∷◌, ◌++◌, map, Some, None, Option, sym, refl, ap, ◌∙◌, append_assoc, arith}
 use Rattle.std.specs.List.{AllByRecursion}
 use Rattle.std.specs.Option.{option_to_list}
 use Rattle.std.proofs.ByRecursion.{All-weaker, All-append, All-map}
-use Rattle.std.proofs.lemmas.Bool.Decides.{nat_tests}
 use Rattle.machine.specs.Machine.{Machine, and_then, moved, run}
 use Rattle.alphabet.specs.Model.{Model, SoundGuard, SoundTerm}
 use Rattle.alphabet.specs.Questions.{lies}

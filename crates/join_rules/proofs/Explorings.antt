@@ -8,11 +8,10 @@ use Rattle.alphabet.specs.Laws.{Lawful}
 use Rattle.table.specs.declared.entries.Rule.{Rule}
 use Rattle.table.specs.Table.{Table}
 use Rattle.table.specs.Sound.{Sound}
-use Rattle.join_laws.specs.Lines.{Line}
 use Rattle.join_laws.specs.Ways.{Way}
 use Rattle.join_laws.specs.Pairs.{Pair, met_all, explored}
 use Rattle.join_laws.specs.Joined.{numbered, lines_for, ways_at, targets_at, pairs}
-use Rattle.join_laws.proofs.Pairs.{Within, targets_within}
+use Rattle.join_laws.proofs.Pairs.{targets_within}
 use Rattle.join_laws.proofs.Places.{In, Begins, begins_trans, begins_length, met_all_begins, few}
 use Rattle.join_laws.proofs.Explores.{Taken, taken_start, taken_next, explored_next, explored_done, explored_begins}
 use Rattle.join_ways.specs.declared.write.Counts.{Counts}

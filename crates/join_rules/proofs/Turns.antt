@@ -1,5 +1,5 @@
 -- The rules of a pair, line by line of the first filter.
-use Rattle.std.proofs.Common.{◌≡◌, ℕ, ◌+◌, ◌-◌, ◌<◌, ◌≤◌, Bool, true, false, cond, eqb, List, [], ◌∷◌, ◌++◌, map, length, get_or, take, drop, sym, refl, ap, ◌∙◌, subst, append_assoc, append-nil, arith}
+use Rattle.std.proofs.Common.{◌≡◌, ℕ, ◌+◌, ◌<◌, ◌≤◌, true, false, cond, eqb, List, [], ◌∷◌, ◌++◌, map, length, get_or, take, drop, sym, refl, ap, ◌∙◌, subst, append_assoc, append-nil, arith}
 use Rattle.std.specs.List.{AllByRecursion}
 use Rattle.std.proofs.ByRecursion.{All-take, All-drop}
 use Rattle.std.proofs.lemmas.List.{at_drop_more, at_drop_all, drop-drop}
@@ -14,7 +14,7 @@ use Rattle.join_laws.specs.Ways.{Way, ways}
 use Rattle.join_laws.specs.Pairs.{Pair, met_all}
 use Rattle.join_laws.specs.Joined.{aimed, numbered, ways_at}
 use Rattle.join_ways.specs.declared.write.Counts.{Counts}
-use Rattle.join_ways.specs.Added.{Fits, Added}
+use Rattle.join_ways.specs.Added.{Fits}
 use Rattle.join_ways.proofs.Adds.{added_none}
 use Rattle.join_ways.proofs.Goings.{rule_outputs_sound}
 use Rattle.join_rules.specs.PairRules.{targets}

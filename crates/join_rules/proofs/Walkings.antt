@@ -1,27 +1,20 @@
 -- One turn of the loop over the first filter's rules.
-use Rattle.std.proofs.Common.{◌≡◌, ℕ, zero, suc, ◌+◌, ◌-◌, ◌<◌, ◌≤◌, Bool, true, false, cond, eqb, List, [], ◌∷◌, ◌++◌, map, length, get_or, take, drop, sym, refl, ap, ◌∙◌, subst, append_assoc, append-nil, arith}
+use Rattle.std.proofs.Common.{◌≡◌, ℕ, ◌+◌, ◌-◌, ◌≤◌, List, [], ◌∷◌, ◌++◌, map, length, take, drop, sym, refl, ap, ◌∙◌, subst, arith}
 use borrow.Rule.Slice.PartMut.{put_mid, post_of}
 use Rattle.std.specs.List.{AllByRecursion}
-use Rattle.std.proofs.ByRecursion.{All-take, All-drop}
-use Rattle.std.proofs.lemmas.List.{at_drop_more, at_drop_all, drop-drop, map-append, length-map, length-append, length-take-le, take_at, drop_at, take-append-drop}
-use Rattle.alphabet.specs.Model.{Model, SoundTerm}
+use Rattle.std.proofs.lemmas.List.{drop-drop, map-append, length-map, length-take-le, take_at, drop_at}
 use Rattle.table.specs.declared.entries.Rule.{Rule}
-use Rattle.table.specs.Table.{Table, final_total_of, rule_total_of}
-use Rattle.table.specs.Sound.{Sound}
-use Rattle.table.proofs.Outputs.{total_more}
-use Rattle.join_laws.specs.Lists.{gathered}
-use Rattle.join_laws.specs.Lines.{Line, line_of, lines_from, lines_of, rule_of_lem}
-use Rattle.join_laws.specs.Ways.{Way, ways}
-use Rattle.join_laws.specs.Pairs.{Pair, place, met_all}
-use Rattle.join_laws.specs.Joined.{aimed, numbered, ways_at}
+use Rattle.join_laws.specs.Lines.{Line, rule_of_lem}
+use Rattle.join_laws.specs.Ways.{Way}
+use Rattle.join_laws.specs.Pairs.{Pair, met_all}
+use Rattle.join_laws.specs.Joined.{aimed, numbered}
 use Rattle.join_laws.proofs.Places.{In, Begins, begins_place, begins_length, met_all_begins, met_all_in, met_all_append}
 use Rattle.join_ways.specs.declared.write.Counts.{Counts}
 use Rattle.join_ways.specs.Written.{spliced}
 use Rattle.join_ways.specs.Paths.{raw_line}
 use Rattle.join_ways.specs.Added.{outputs_of_lem, Fits, Added}
-use Rattle.join_ways.proofs.Splices.{take_spliced, drop_spliced, splice_length}
-use Rattle.join_ways.proofs.Adds.{added_none, added_more, fits_front, fits_rest}
-use Rattle.join_ways.proofs.Goings.{rule_outputs_sound}
+use Rattle.join_ways.proofs.Splices.{drop_spliced}
+use Rattle.join_ways.proofs.Adds.{added_more, fits_front, fits_rest}
 use Rattle.join_pairs.specs.Meets.{targets_of, renumbered}
 use Rattle.join_rules.specs.PairRules.{targets}
 

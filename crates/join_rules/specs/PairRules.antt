@@ -1,9 +1,8 @@
 -- The rules of pairs, written as the pairs are taken.
-use Rattle.std.specs.Prelude.{◌≡◌, ℕ, ◌≤◌, List, [], ◌∷◌, map, length, Ok, Err, Result}
+use Rattle.std.specs.Prelude.{◌≡◌, ℕ, ◌≤◌, List, map, length, Ok, Err, Result}
 use Rattle.alphabet.specs.Model.{Model}
 use Rattle.table.specs.declared.entries.Rule.{Rule}
 use Rattle.table.specs.Table.{Table}
-use Rattle.join_laws.specs.Lines.{Line}
 use Rattle.join_laws.specs.Ways.{Way}
 use Rattle.join_laws.specs.Pairs.{Pair, met_all}
 use Rattle.join_laws.specs.Joined.{numbered, lines_for, ways_at, pairs}

@@ -2,7 +2,7 @@
 use Rattle.std.proofs.Common.{◌≡◌, ℕ, ◌+◌, ◌<◌, ◌≤◌, List, [], ◌∷◌, ◌++◌, map, length, get_or, take, drop, set, Some, None, Ok, Option, sym, refl, ap, ◌∙◌, subst, append_assoc, append-nil, arith}
 use Rattle.std.specs.List.{AllByRecursion}
 use Rattle.std.proofs.ByRecursion.{All-append}
-use Rattle.std.proofs.lemmas.List.{length-append, length-map, map-append, take_more, take_all, take-append-drop, length-take-le, map_more}
+use Rattle.std.proofs.lemmas.List.{length-append, map-append, take_more, take_all, take-append-drop}
 use Rattle.alphabet.specs.Model.{Model}
 use Rattle.table.specs.declared.entries.State.{State}
 use Rattle.join_laws.specs.Lists.{gathered}

@@ -1,16 +1,14 @@
 -- Lines added to lists, one and several.
-use Rattle.std.proofs.Common.{◌≡◌, ℕ, suc, ◌+◌, ◌-◌, ◌<◌, ◌≤◌, List, [], ◌∷◌, ◌++◌, map, length, set, sym, refl, ap, ◌∙◌, subst, append_assoc, append-nil, arith}
+use Rattle.std.proofs.Common.{◌≡◌, ℕ, ◌+◌, ◌<◌, ◌≤◌, List, [], ◌∷◌, ◌++◌, map, length, set, sym, refl, ap, ◌∙◌, append_assoc, append-nil, arith}
 use Rattle.std.specs.List.{AllByRecursion}
 use Rattle.std.proofs.ByRecursion.{All-append}
 use Rattle.std.proofs.lemmas.List.{length-append, length-map, map-append}
 use Rattle.table.specs.declared.entries.Rule.{Rule}
-use Rattle.join_laws.specs.Lists.{gathered}
 use Rattle.join_laws.specs.Lines.{Line, rule_of_lem}
 use Rattle.join_ways.specs.declared.write.Counts.{Counts}
 use Rattle.join_ways.specs.Written.{spliced}
-use Rattle.join_ways.specs.Paths.{whole_line}
 use Rattle.join_ways.specs.Added.{outputs_of_lem, Fits, Added}
-use Rattle.join_ways.proofs.Splices.{Mid, mid_none, mid_more, mid_length, mid_same, splice_none, splice_length, splice_one, splice_more}
+use Rattle.join_ways.proofs.Splices.{Mid, mid_more, mid_length, splice_none, splice_one}
 
 module _ {G T : Type 0} where
   pub outputs_append : (ls ks : List (Line G T)) → outputs_of_lem (ls ++ ks) ≡ outputs_of_lem ls ++ outputs_of_lem ks

@@ -1,21 +1,21 @@
 -- One turn of the loop that goes through the lines of the present state.
-use Rattle.std.proofs.Common.{◌≡◌, ℕ, zero, suc, ◌+◌, ◌-◌, ◌<◌, ◌≤◌, Bool, true, false, cond, eqb, List, [], ◌∷◌, ◌++◌, map, length, get_or, take, drop, set, Some, None, Option, sym, refl, ap, ◌∙◌, subst, append_assoc, append-nil, arith}
+use Rattle.std.proofs.Common.{◌≡◌, ℕ, zero, suc, ◌+◌, ◌-◌, ◌<◌, ◌≤◌, cond, eqb, List, [], ◌∷◌, ◌++◌, map, length, get_or, take, drop, Some, None, Option, sym, refl, ap, ◌∙◌, subst, append_assoc, append-nil, arith}
 use Rattle.std.specs.List.{slice_get, AllByRecursion}
-use Rattle.std.proofs.ByRecursion.{All-append, All-take, All-drop, All-weaker}
-use Rattle.std.proofs.lemmas.List.{at_drop_more, at_drop_all, drop-drop, drop_more, map-append, take_all, take_more_set, length-drop}
-use Rattle.alphabet.specs.Model.{Model, SoundGuard, SoundTerm}
+use Rattle.std.proofs.ByRecursion.{All-take, All-drop, All-weaker}
+use Rattle.std.proofs.lemmas.List.{at_drop_more, at_drop_all, drop-drop, map-append, take_all, length-drop}
+use Rattle.alphabet.specs.Model.{Model, SoundTerm}
 use Rattle.table.specs.declared.entries.Rule.{Rule}
 use Rattle.table.specs.Table.{Table, stretch, final_total_of, rule_total_of, all_rule_outputs, rule_outputs}
 use Rattle.table.specs.Sound.{Sound, Suits}
 use Rattle.table.proofs.Stretches.{all_from_stretches}
 use Rattle.table.proofs.Outputs.{total_more}
 use Rattle.join_laws.specs.Lists.{gathered, on_some}
-use Rattle.join_laws.specs.Lines.{Line, line_of, lines_from, lines_of, rule_of_lem}
+use Rattle.join_laws.specs.Lines.{Line, line_of, lines_from, lines_of}
 use Rattle.join_laws.specs.Ways.{Way, followed_by, fronted, ways}
 use Rattle.join_laws.proofs.Lines.{width}
 use Rattle.join_ways.specs.declared.write.Counts.{Counts}
 use Rattle.join_ways.specs.declared.write.Span.{Span}
-use Rattle.join_ways.specs.Paths.{within, SoundSpan, raw_line}
+use Rattle.join_ways.specs.Paths.{SoundSpan, raw_line}
 use Rattle.join_ways.specs.Added.{Fits, Added}
 use Rattle.join_ways.proofs.Adds.{added_none, added_more, fits_front, fits_rest}
 

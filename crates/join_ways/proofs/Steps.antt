@@ -1,12 +1,12 @@
 -- The path one step on, and the ends of the recursion over the ways.
-use Rattle.std.proofs.Common.{◌≡◌, ℕ, ◌+◌, ◌-◌, ◌<◌, ◌≤◌, Bool, true, false, cond, eqb, List, [], ◌∷◌, ◌++◌, map, length, get_or, take, drop, set, Some, None, Option, sym, refl, ap, ◌∙◌, subst, append-nil, arith}
+use Rattle.std.proofs.Common.{◌≡◌, ℕ, ◌+◌, ◌<◌, ◌≤◌, Bool, true, false, cond, eqb, List, [], ◌∷◌, ◌++◌, map, length, get_or, take, drop, set, Some, None, sym, refl, ap, ◌∙◌, subst, append-nil, arith}
 use Rattle.std.specs.List.{AllByRecursion}
 use Rattle.std.proofs.ByRecursion.{All-append}
 use Rattle.std.proofs.lemmas.List.{drop_all, take_all, take_more_set, take_more, take-take, take-set, map-append, length-map, length-take-le}
-use Rattle.alphabet.specs.Model.{Model, SoundTerm}
+use Rattle.alphabet.specs.Model.{Model}
 use Rattle.join_laws.specs.Lists.{on_some}
 use Rattle.join_laws.specs.Lines.{Line}
-use Rattle.join_laws.specs.Ways.{Way, followed_by, fronted, ways}
+use Rattle.join_laws.specs.Ways.{followed_by, fronted, ways}
 use Rattle.join_ways.specs.declared.write.Span.{Span}
 use Rattle.join_ways.specs.Paths.{within, SoundSpan, along, raw_line, whole_line}
 use Rattle.join_ways.proofs.Followed.{along_push}

@@ -1,5 +1,5 @@
 -- Lines that are added to a rule list and an output list.
-use Rattle.std.specs.Prelude.{◌≡◌, ℕ, ◌+◌, ◌≤◌, List, map, length, Ok, Err, Result}
+use Rattle.std.specs.Prelude.{◌≡◌, ◌+◌, ◌≤◌, List, map, length, Ok, Err, Result}
 use Rattle.std.specs.List.{AllByRecursion}
 use Rattle.table.specs.declared.entries.Rule.{Rule}
 use Rattle.join_laws.specs.Lists.{gathered}

@@ -1,5 +1,5 @@
 -- A path through the second filter: for each output term so far, where the outputs of the rule that took it stand.
-use Rattle.std.specs.Prelude.{ℕ, ◌-◌, ◌≤◌, List, [], ◌∷◌, ◌++◌, map, length, take, drop}
+use Rattle.std.specs.Prelude.{ℕ, ◌-◌, ◌≤◌, List, [], ◌∷◌, ◌++◌, length, take, drop}
 use Rattle.std.specs.List.{AllByRecursion}
 use Rattle.alphabet.specs.Model.{Model, SoundTerm}
 use Rattle.join_laws.specs.Lines.{Line}

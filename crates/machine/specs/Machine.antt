@@ -1,5 +1,5 @@
 -- Abstract transducers with final outputs, and what they do to a text.
-use Rattle.std.specs.Prelude.{◌≡◌, ℕ, ◌+◌, List, [], ◌∷◌, ◌++◌, Some, None, Option}
+use Rattle.std.specs.Prelude.{◌≡◌, ℕ, List, [], ◌∷◌, ◌++◌, Some, None, Option}
 
 -- A transducer by its two questions: where a state goes on a symbol and what it writes there, or none where it has no
 -- move; and what a state writes at the end of a text, or none where it rejects there. It starts in state 0.

@@ -2,7 +2,7 @@
 use Rattle.std.proofs.Common.{◌≡◌, ℕ, ◌+◌, ◌*◌, ◌%◌, ◌<◌, true, not, ◌||◌, is_some, Some, None, arith}
 use Rattle.std.proofs.lemmas.Bool.Decides.{nat_tests}
 use Rattle.alphabet.specs.Model.{SoundTerm}
-use Rattle.alphabet.specs.Questions.{every, gives, suits, constant_of}
+use Rattle.alphabet.specs.Questions.{gives, suits, constant_of}
 use Rattle.alphabet.proofs.Bounded.{decides_every, every_fails}
 use Rattle.mark_laws.specs.declared.MarkSet.{MarkSet}
 use Rattle.mark_laws.specs.declared.MarkTerm.{MarkTerm}

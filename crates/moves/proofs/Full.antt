@@ -1,15 +1,15 @@
 -- A found rule: each of its outputs has a value, there are not too many of them, and it leads to a state.
-use Rattle.std.proofs.Common.{◌≡◌, ℕ, zero, suc, ◌+◌, ◌-◌, ◌<◌, ◌≤◌, Bool, true, false, cond, List, [], ◌∷◌, length, take, drop, Some, None, Option, sym, refl, ap, ◌∙◌, subst, arith}
+use Rattle.std.proofs.Common.{◌≡◌, ℕ, zero, suc, ◌+◌, ◌-◌, ◌<◌, ◌≤◌, Bool, true, false, cond, List, [], ◌∷◌, length, take, drop, Some, refl, ap, ◌∙◌, subst, arith}
 use Rattle.std.specs.List.{slice_get, AllByRecursion}
 use Rattle.std.specs.Option.{option_to_list}
 use Rattle.std.proofs.lemmas.List.{length-append, length-take-le, length-drop}
 use Rattle.std.proofs.lemmas.Bool.{and_parts}
 use Rattle.alphabet.specs.Model.{Model}
 use Rattle.table.specs.declared.entries.Rule.{Rule}
-use Rattle.table.specs.Table.{Table, final_total_of, rule_outputs}
+use Rattle.table.specs.Table.{Table, final_total_of}
 use Rattle.table.specs.Sound.{Sound, Suits}
 use Rattle.filter.specs.declared.walk.Found.{Found}
-use Rattle.filter.specs.Machines.{applies, pick, found, values_of, Leads}
+use Rattle.filter.specs.Machines.{applies, pick, values_of, Leads}
 use Rattle.filter.proofs.Finds.{Picked}
 use Rattle.replay.specs.Sizes.{most_of, outputs_of_lem, longest_of}
 

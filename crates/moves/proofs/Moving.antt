@@ -1,5 +1,5 @@
 -- Where a filter stands after one symbol more, by whether a rule is found.
-use Rattle.std.proofs.Common.{◌≡◌, ℕ, ◌+◌, ◌-◌, ◌<◌, ◌≤◌, List, [], ◌∷◌, ◌++◌, length, take, drop, Some, None, Option, sym, refl, ap, ◌∙◌, subst, arith}
+use Rattle.std.proofs.Common.{◌≡◌, ℕ, ◌+◌, ◌-◌, List, [], ◌∷◌, ◌++◌, Some, None, Option, sym, refl, ap, ◌∙◌, arith}
 use Rattle.std.proofs.lemmas.List.{length-append}
 use Rattle.machine.specs.Machine.{run}
 use Rattle.machine.specs.Sides.{state_of, output_of, onward}
@@ -11,8 +11,7 @@ use Rattle.filter.specs.declared.walk.Found.{Found}
 use Rattle.filter.specs.Machines.{found, machine_of, values_of, Leads}
 use Rattle.filter.proofs.Finds.{Picked, found_picked}
 use Rattle.steps.specs.declared.step.Side.{Side}
-use Rattle.replay.specs.Replays.{terms_of, output_by, Sits, Stands}
-use Rattle.replay.specs.Sizes.{longest_of}
+use Rattle.replay.specs.Replays.{terms_of, output_by}
 use Rattle.moves.specs.Moves.{dead_side, Moved}
 use Rattle.moves.proofs.Full.{found_full, found_few, found_known}
 

@@ -1,10 +1,9 @@
 -- Ranges form an alphabet: every law, at every size.
-use Rattle.std.proofs.Common.{◌≡◌, ℕ, ◌+◌, ◌-◌, ◌<◌, ◌≤◌, min, max, Bool, true, false, cond, ◌&&◌, ltb, leb, ◌⊎◌, ℤ, pos, negsuc, ◌+ℤ◌, nat_abs, Some, None, Ok, Err, Option, refl, inl, inr, arith}
+use Rattle.std.proofs.Common.{◌≡◌, ℕ, ◌<◌, ◌≤◌, Bool, true, false, ◌&&◌, ◌⊎◌, ℤ, pos, negsuc, ◌+ℤ◌, nat_abs, Some, None, Ok, Err, Option, refl, arith}
 use Rattle.std.proofs.lemmas.Bool.Decides.{nat_tests}
 use Rattle.std.proofs.lemmas.Int.{ints}
 use Rattle.alphabet.specs.declared.cause.Cause.{Cause}
 use Rattle.alphabet.specs.declared.cause.Cause.TheVariants.{NoSymbols, BeyondSize, OutOfBounds}
-use Rattle.alphabet.specs.Model.{Model, SoundGuard, SoundTerm}
 use Rattle.alphabet.specs.Questions.{lies}
 use Rattle.alphabet.specs.Laws.{Lawful}
 use Rattle.range_laws.specs.declared.Range.{Range}

@@ -1,13 +1,12 @@
 -- Two questions about all symbols, answered from a few: whether a term suits a range, and whether it is constant.
-use Rattle.std.proofs.Common.{◌≡◌, ℕ, ◌<◌, ◌≤◌, Bool, true, false, cond, not, ◌&&◌, ◌||◌, ltb, leb, ℤ, pos, negsuc, ◌+ℤ◌, nat_abs, is_some, Some, None, Ok, Decides, Option, sym, refl, arith}
-use Rattle.std.proofs.lemmas.Bool.Decides.{nat_tests, same_from_decides, Decides-like}
-use Rattle.std.proofs.lemmas.Int.{ints}
+use Rattle.std.proofs.Common.{◌≡◌, ℕ, ◌<◌, ◌≤◌, Bool, true, false, not, ◌&&◌, ◌||◌, ℤ, pos, negsuc, is_some, Some, None, Ok, refl, arith}
+use Rattle.std.proofs.lemmas.Bool.Decides.{nat_tests, same_from_decides}
 use Rattle.alphabet.specs.Questions.{every, suits, constant_of, gives}
 use Rattle.alphabet.proofs.Bounded.{decides_every, every_fails}
 use Rattle.range_laws.specs.declared.Range.{Range}
 use Rattle.range_laws.specs.declared.RangeTerm.{RangeTerm}
 use Rattle.range_laws.specs.declared.RangeTerm.TheVariants.{Constant, Shift}
-use Rattle.range_laws.specs.Ranges.{ranges, check_range, check_term, in_range, value_at, symbol_at}
+use Rattle.range_laws.specs.Ranges.{ranges, check_range, check_term, in_range, value_at}
 
 module _ (n : ℕ) where
   -- a term that is defined at both ends of a range is defined between them

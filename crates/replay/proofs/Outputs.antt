@@ -14,7 +14,7 @@ use Rattle.steps.specs.declared.step.Step.{Step}
 use Rattle.steps.specs.declared.step.Hand.{Hand}
 use Rattle.steps.specs.Steps.{side_of, at, text, Tree}
 use Rattle.steps.proofs.Texts.{text_zero}
-use Rattle.replay.specs.Replays.{terms_of, living, output_by, Sits, Stands, Traced}
+use Rattle.replay.specs.Replays.{terms_of, living, output_by, Sits, Traced}
 
 -- what is written in the middle of a list that has room
 pub put_between : (n : ℕ) (v o : List ℕ) → n + length v ≤ length o → put n v o ≡ (take n o ++ v) ++ drop (n + length v) o

@@ -1,5 +1,5 @@
 -- Places: below the number of steps needed, and no two pairs share one, so that no more steps are made.
-use Rattle.std.proofs.Common.{◌≡◌, ℕ, ◌+◌, ◌*◌, ◌/◌, ◌%◌, ◌<◌, ◌≤◌, Bool, true, false, List, [], length, get_or, Some, None, Option, sym, refl, ap, ◌∙◌, mul-le-mul, mul-one, mul-add, arith}
+use Rattle.std.proofs.Common.{◌≡◌, ℕ, ◌+◌, ◌*◌, ◌/◌, ◌%◌, ◌<◌, ◌≤◌, Bool, true, false, List, length, get_or, Some, None, Option, sym, refl, ap, ◌∙◌, mul-le-mul, mul-one, mul-add, arith}
 use lib.Arith.{digits_lt, digits_div, digits_mod}
 use Rattle.machine.proofs.Pigeons.{pigeon}
 use Rattle.steps.specs.declared.step.Step.{Step}

@@ -1,5 +1,5 @@
 -- The steps of a comparison as lists: where a filter stands after a step, and the text of a step.
-use Rattle.std.specs.Prelude.{◌≡◌, ℕ, ◌<◌, false, cond, List, [], ◌++◌, map, length, drop, Some, None, Option, nat_le, nat_lt, slice_index_or}
+use Rattle.std.specs.Prelude.{◌≡◌, ℕ, ◌<◌, false, cond, List, ◌++◌, map, length, drop, Some, None, Option, nat_le, nat_lt, slice_index_or}
 use Rattle.machine.specs.Texts.{text_at}
 use Rattle.steps.specs.declared.step.Side.{Side}
 use Rattle.steps.specs.declared.step.Step.{Step}

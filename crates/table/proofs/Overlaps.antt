@@ -1,10 +1,10 @@
 -- The search for the first rule that clashes with an earlier one: its turns.
-use Rattle.std.proofs.Common.{◌≡◌, ℕ, zero, suc, ◌+◌, ◌<◌, ◌≤◌, Bool, true, false, not, ◌||◌, List, [], ◌∷◌, ◌++◌, length, get_or, take, drop, Ok, Err, sym, refl, ap, ◌∙◌, arith}
+use Rattle.std.proofs.Common.{◌≡◌, ℕ, zero, suc, ◌+◌, ◌<◌, Bool, true, false, not, ◌||◌, List, [], ◌∷◌, ◌++◌, length, get_or, take, drop, Err, sym, ap, ◌∙◌, arith}
 use Rattle.std.proofs.lemmas.List.{at_drop_more, take_more}
 use Rattle.alphabet.specs.Model.{Model}
 use Rattle.table.specs.declared.entries.Rule.{Rule}
 use Rattle.table.specs.declared.fault.TableFault.TheVariants.{Overlap}
-use Rattle.table.specs.Check.{Checked, next, unless, clash, clashes, check_overlaps_lem}
+use Rattle.table.specs.Check.{next, unless, clash, clashes, check_overlaps_lem}
 
 -- a list with an index has an item
 pub some_item : {X : Type 0} (xs : List X) (i : ℕ) → i < length xs → X

@@ -1,19 +1,17 @@
 -- The step that goes on from one of the steps.
-use Rattle.std.proofs.Common.{◌≡◌, ℕ, ◌+◌, ◌*◌, ◌<◌, ◌≤◌, false, List, length, Option, sym, refl, ap, ◌∙◌, subst, add-mul, mul-le-mul, one-mul, arith}
+use Rattle.std.proofs.Common.{◌≡◌, ℕ, ◌+◌, ◌*◌, ◌<◌, ◌≤◌, false, List, length, sym, ap, ◌∙◌, subst, add-mul, mul-le-mul, one-mul, arith}
 use Rattle.alphabet.specs.Model.{Model}
 use Rattle.table.specs.Table.{Table}
 use Rattle.steps.specs.declared.step.Side.{Side}
 use Rattle.steps.specs.declared.step.Step.{Step}
-use Rattle.steps.specs.declared.step.Hand.{Hand}
-use Rattle.steps.specs.declared.step.Hand.TheVariants.{Left, Right}
-use Rattle.steps.specs.Steps.{at, side_of, text}
+use Rattle.steps.specs.Steps.{at, text}
 use Rattle.steps.specs.Places.{steps_needed_lem}
 use Rattle.steps.proofs.Placing.{product_most}
-use Rattle.replay.specs.Replays.{Stands, Traced, Tracks}
+use Rattle.replay.specs.Replays.{Tracks}
 use Rattle.moves.specs.Moves.{Moved, Known}
 use Rattle.judging.specs.declared.frame.Frame.{Frame}
 use Rattle.judging.specs.Frames.{Framed}
-use Rattle.judging.specs.Kept.{Extends, text_by}
+use Rattle.judging.specs.Kept.{Extends}
 
 module _ {G T : Type 0} (F H : Table G T) (f : Frame) (B : Framed F H f) (n : ℕ) (few : n ≤ steps_needed_lem f.left f.right) where
   -- steps are few, and so are the symbols that they write

@@ -1,5 +1,5 @@
 -- One step more behind the others.
-use Rattle.std.proofs.Common.{◌≡◌, ℕ, ◌+◌, ◌*◌, ◌<◌, ◌≤◌, Bool, true, false, ◌≢◌, List, [], ◌∷◌, ◌++◌, length, get_or, set, Some, None, Option, sym, refl, ap, ◌∙◌, subst, mul-le-mul_right, arith}
+use Rattle.std.proofs.Common.{◌≡◌, ℕ, ◌+◌, ◌*◌, ◌<◌, ◌≤◌, Bool, true, List, [], ◌∷◌, ◌++◌, length, get_or, set, Option, sym, refl, ap, ◌∙◌, subst, mul-le-mul_right, arith}
 use native.Mathlib.Decide.{dec_lt}
 use Rattle.std.proofs.lemmas.List.{length-append, get_or_append_left, get_or_push, get_or-set_same, get_or-set_other, map-append}
 use Rattle.machine.specs.Lag.{lag_of}
@@ -14,10 +14,10 @@ use Rattle.steps.specs.declared.step.Step.{Step}
 use Rattle.steps.specs.declared.step.Hand.{Hand}
 use Rattle.steps.specs.declared.step.Hand.TheVariants.{Left, Right}
 use Rattle.steps.specs.Steps.{blank, at, side_of, nodes_of, text, Tree}
-use Rattle.steps.specs.Places.{steps_needed_lem, place_of, place_at, ProperAt, Placed}
+use Rattle.steps.specs.Places.{steps_needed_lem, place_at, ProperAt, Placed}
 use Rattle.steps.proofs.Texts.{text_old, text_new}
-use Rattle.steps.proofs.Placing.{place_below, place_room}
-use Rattle.replay.specs.Replays.{Stands, Traced, Tracks}
+use Rattle.steps.proofs.Placing.{place_room}
+use Rattle.replay.specs.Replays.{Stands, Traced}
 use Rattle.replay.proofs.Outputs.{parent_le}
 use Rattle.judging.specs.Kept.{Mate, Kept, Going, Turned, Extends, text_by}
 

@@ -1,5 +1,5 @@
 -- Trying a symbol: the longer text is covered, or a step is made for it.
-use Rattle.std.proofs.Common.{◌≡◌, ℕ, ◌+◌, ◌<◌, ◌≤◌, Bool, true, false, cond, ltb, List, [], ◌∷◌, ◌++◌, length, set, Some, None, Ok, Err, Option, Result, sym, refl, ap, ◌∙◌, subst, arith}
+use Rattle.std.proofs.Common.{◌≡◌, ℕ, ◌+◌, ◌<◌, ◌≤◌, Bool, true, cond, ltb, List, [], ◌∷◌, ◌++◌, length, set, Some, None, Ok, Err, Option, Result, sym, refl, ap, ◌∙◌, subst, arith}
 use Rattle.std.proofs.lemmas.List.{get_or_append_left}
 use Rattle.std.proofs.lemmas.Bool.{lt-ltb}
 use Rattle.machine.specs.Sides.{Arrives}
@@ -10,12 +10,12 @@ use Rattle.table.specs.Table.{Table}
 use Rattle.filter.specs.Machines.{machine_of}
 use Rattle.steps.specs.declared.step.Step.{Step}
 use Rattle.steps.specs.Steps.{blank, at, text}
-use Rattle.steps.specs.Places.{steps_needed_lem, place_of, place_at, ProperAt}
+use Rattle.steps.specs.Places.{steps_needed_lem, place_of}
 use Rattle.steps.proofs.Placing.{place_below}
 use Rattle.steps.proofs.Texts.{texts_count}
 use Rattle.classes.specs.Guided.{Guided}
 use Rattle.judging.specs.Frames.{both_dead_lem}
-use Rattle.judging.specs.Kept.{Mate, Going, Turned, Extends, Judged, text_by}
+use Rattle.judging.specs.Kept.{Going, Turned, Extends, Judged, text_by}
 use Rattle.trying.proofs.Growing.{marked, going_past, going_push, push_room, going_skip, going_turned}
 use Rattle.judging.proofs.Judging.{step_arrives}
 

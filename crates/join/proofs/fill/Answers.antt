@@ -1,7 +1,7 @@
-use Rattle.std.proofs.Common.{◌≡◌, ℕ, ◌+◌, ◌-◌, ◌<◌, ◌≤◌, List, ◌++◌, map, length, take, drop, Ok, sym, refl, ap, ◌∙◌, subst, arith}
+use Rattle.std.proofs.Common.{◌≡◌, ◌-◌, ◌++◌, map, length, take, drop, Ok, sym, ap, ◌∙◌, subst, arith}
 use Rattle.std.proofs.lemmas.List.{length-map}
 use Rattle.std.proofs.lemmas.Result.{err_from_is_err_and}
-use Rattle.queue.specs.Held.{entries, room}
+use Rattle.queue.specs.Held.{room}
 use Rattle.table.specs.Table.{table_of}
 use Rattle.join_laws.specs.Joined.{lines_for, ways_at, final_at, pairs, joined}
 use Rattle.join_laws.proofs.Joining.{joins}
@@ -9,7 +9,7 @@ use Rattle.join_laws.specs.Lines.{table_from}
 use Rattle.join_laws.specs.Theorems.{Joins}
 use borrow.Rule.Slice.PartMut.{put_mid}
 use Rattle.join_states.specs.Ended.{Room, EndedAll}
-use Rattle.join.specs.Filled.{Fitting, Written}
+use Rattle.join.specs.Filled.{Written}
 use Rattle.join.proofs.Fillings.{fits_lines, fits_finals, all_written}
 use Rattle.join.proofs.fill.Goals as goal
 

@@ -1,9 +1,8 @@
-use Rattle.std.proofs.Common.{◌≡◌, ℕ, ◌+◌, ◌-◌, ◌<◌, ◌≤◌, min, [], ◌∷◌, ◌++◌, length, take, drop, sym, refl, ap, ◌∙◌, subst, arith}
+use Rattle.std.proofs.Common.{◌≡◌, ◌-◌, min, [], ◌∷◌, ◌++◌, length, ap, ◌∙◌, arith}
 use Rattle.std.proofs.lemmas.List.{length-take-le}
 use Rattle.queue.specs.Held.{entries, room}
 use Rattle.table.specs.Table.{table_of}
 use Rattle.join_laws.specs.Joined.{joined}
-use Rattle.join_laws.specs.Theorems.{Joins}
 use Rattle.join_laws.proofs.Joining.{joins}
 use Rattle.join_pairs.proofs.Meetings.{number_refused}
 use Rattle.join.proofs.Fillings.{joined_some, answers_from_fills}

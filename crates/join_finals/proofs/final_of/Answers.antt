@@ -1,8 +1,8 @@
-use Rattle.std.proofs.Common.{◌≡◌, ℕ, ◌+◌, ◌-◌, ◌≤◌, List, length, get_or, take, drop, Some, None, sym, refl, ap, ◌∙◌, subst, arith, rules}
+use Rattle.std.proofs.Common.{ℕ, ◌+◌, ◌-◌, ◌≤◌, List, length, get_or, take, drop, Some, sym, refl, ap, ◌∙◌, subst, arith, rules}
 use Rattle.std.specs.List.{AllByRecursion}
 use Rattle.std.proofs.lemmas.List.{length-take}
 use Rattle.std.proofs.lemmas.Option.{slice_get-get_or}
-use Rattle.machine.specs.Machine.{and_then, run, prefixed, transduced_from}
+use Rattle.machine.specs.Machine.{and_then, prefixed, transduced_from}
 use Rattle.table.specs.declared.entries.State.{State}
 use Rattle.table.specs.Table.{table_of}
 use Rattle.alphabet.specs.Model.{SoundTerm}
@@ -11,8 +11,8 @@ use Rattle.filter.proofs.Finals.{final_missing, final_rejects, final_accepts, be
 use Rattle.filter.specs.Outcomes.{behind}
 use Rattle.join_laws.specs.Joined.{final_at}
 use Rattle.join_finals.specs.Finals.{Ends}
-use Rattle.join_finals.proofs.Short.{ShortEnd, final_short}
-use Rattle.join_finals.proofs.Steps.{put_behind, final_ends}
+use Rattle.join_finals.proofs.Short.{final_short}
+use Rattle.join_finals.proofs.Steps.{final_ends}
 use Rattle.join_finals.proofs.final_of.Goals as goal
 
 -- the state's entry, as the code reads it

@@ -1,4 +1,4 @@
-use Rattle.std.proofs.Common.{◌≡◌, ℕ, ◌*◌, ◌≤◌, List, length, take, Some}
+use Rattle.std.proofs.Common.{◌≡◌, ◌*◌, ◌≤◌, length, take, Some}
 use Rattle.machine.specs.Machine.{run}
 use Rattle.table.specs.Table.{table_of}
 use Rattle.filter.specs.Machines.{values_of, machine_of}

@@ -1,5 +1,4 @@
 -- The first way that holds a symbol.
-use Rattle.std.proofs.ByRecursion.{All-weaker}
 use Rattle.table.specs.Table.{table_of}
 use Rattle.filter.specs.Machines.{machine_of}
 use Rattle.std.proofs.Common.{length}

@@ -1,4 +1,4 @@
-use Rattle.std.proofs.Common.{◌≡◌, ◌≤◌, length, sym, refl, ap, ◌∙◌, arith}
+use Rattle.std.proofs.Common.{◌≡◌, ◌≤◌, length, arith}
 use Rattle.queue.specs.Held.{entries, room}
 use Rattle.join_laws.specs.Pairs.{place}
 use Rattle.join_pairs.proofs.Meetings.{number_given, number_refused, meets_new, meets_full}

@@ -1,10 +1,9 @@
-use Rattle.std.proofs.Common.{◌≡◌, ◌+◌, ◌<◌, ◌≤◌, length, set, sym, refl, ap, ◌∙◌, subst, arith, rules}
+use Rattle.std.proofs.Common.{◌≡◌, ◌<◌, length, ap, ◌∙◌, arith, rules}
 use Rattle.queue.specs.Held.{entries, room}
 use Rattle.std.proofs.lemmas.Result.{err_from_is_err_and}
 use Rattle.join_laws.specs.Pairs.{Pair, place, met}
 use Rattle.join_laws.proofs.Places.{met_in}
-use Rattle.join_pairs.specs.Meets.{renumbered}
-use Rattle.join_pairs.proofs.Meetings.{Partly, partly_none, partly_length, partly_read, partly_more, partly_over, partly_done}
+use Rattle.join_pairs.proofs.Meetings.{partly_read, partly_more, partly_over, partly_done}
 use Rattle.join_pairs.proofs.number_targets.Goals as goal
 
 pub returns-in_err-number : goal.returns-in_err-number

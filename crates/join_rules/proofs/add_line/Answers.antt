@@ -1,13 +1,13 @@
 use borrow.Author.Rules.{scaled_fits≤}
-use Rattle.std.proofs.Common.{◌≡◌, ℕ, ◌+◌, ◌-◌, ◌<◌, ◌≤◌, List, [], ◌∷◌, ◌++◌, map, length, take, drop, sym, refl, ap, ◌∙◌, subst, arith, rules}
+use Rattle.std.proofs.Common.{◌≤◌, [], map, length, refl, ap, ◌∙◌, subst, arith, rules}
 use Rattle.std.proofs.lemmas.Result.{err_from_is_err_and}
-use Rattle.queue.specs.Held.{entries, room}
+use Rattle.queue.specs.Held.{entries}
 use Rattle.table.specs.Table.{table_of}
-use Rattle.join_laws.specs.Lines.{lines_of, rule_of_lem}
+use Rattle.join_laws.specs.Lines.{lines_of}
 use Rattle.join_laws.specs.Ways.{ways}
 use Rattle.join_laws.specs.Pairs.{met_all}
-use Rattle.join_laws.specs.Joined.{aimed, numbered}
-use Rattle.join_ways.specs.Paths.{raw_line, along}
+use Rattle.join_laws.specs.Joined.{aimed}
+use Rattle.join_ways.specs.Paths.{raw_line}
 use Rattle.join_ways.specs.Added.{Fits, Added}
 use Rattle.join_ways.proofs.Adds.{rules_long}
 use Rattle.join_ways.proofs.Followed.{along_none}

@@ -1,15 +1,12 @@
-use Rattle.std.proofs.Common.{◌≡◌, ℕ, ◌+◌, ◌-◌, ◌<◌, ◌≤◌, true, false, eqb, List, [], ◌∷◌, map, length, get_or, take, drop, sym, refl, ap, ◌∙◌, subst, arith, rules}
+use Rattle.std.proofs.Common.{◌≡◌, ◌+◌, ◌-◌, true, false, eqb, take, drop, sym, refl, ap, ◌∙◌, subst, arith, rules}
 use Rattle.std.specs.List.{AllByRecursion}
 use Rattle.std.proofs.lemmas.List.{length-take}
 use Rattle.std.proofs.lemmas.Option.{slice_get_read}
 use Rattle.std.proofs.lemmas.Result.{err_from_is_err_and}
 use Rattle.std.proofs.lemmas.Bool.Decides.{nat_tests}
 use Rattle.alphabet.specs.Model.{SoundTerm}
-use Rattle.queue.specs.Held.{entries, room}
-use Rattle.table.specs.Table.{table_of}
-use Rattle.join_ways.specs.Added.{Fits, Added}
 use Rattle.join_ways.proofs.Adds.{rules_long, outputs_long}
-use Rattle.join_rules.proofs.Turns.{Walking, walking_start, walking_end, walking_skip, walking_on, walking_refused, ends_within, terms_sound}
+use Rattle.join_rules.proofs.Turns.{walking_start, walking_end, walking_skip, walking_on, walking_refused, ends_within, terms_sound}
 use Rattle.join_rules.proofs.add_pair.Goals as goal
 use Rattle.join_rules.proofs.add_pair.Goals.{then-rule-pair+in_ok-so_far, else-rule-pair}
 

@@ -1,14 +1,14 @@
-use Rattle.std.proofs.Common.{◌≡◌, ℕ, ◌+◌, ◌-◌, ◌<◌, ◌≤◌, [], ◌∷◌, map, length, get_or, sym, refl, ap, ◌∙◌, subst, arith, rules}
+use Rattle.std.proofs.Common.{◌<◌, ◌≤◌, map, length, get_or, sym, refl, ap, ◌∙◌, subst, arith, rules}
 use Rattle.std.proofs.lemmas.Result.{err_from_is_err_and}
 use Rattle.queue.specs.Held.{entries, room}
 use Rattle.table.specs.Table.{table_of}
 use Rattle.join_laws.specs.Pairs.{met_all}
 use Rattle.join_laws.specs.Joined.{numbered, ways_at}
-use Rattle.join_ways.specs.Added.{Fits, Added}
+use Rattle.join_ways.specs.Added.{Fits}
 use Rattle.join_ways.proofs.Adds.{rules_long, outputs_long}
 use Rattle.join_rules.specs.PairRules.{targets}
 use Rattle.join_rules.proofs.Walkings.{Took}
-use Rattle.join_rules.proofs.Explorings.{Exploring, exploring_start, exploring_end, exploring_next, exploring_refused, zero}
+use Rattle.join_rules.proofs.Explorings.{Exploring, exploring_start, exploring_end, exploring_next, exploring_refused}
 use Rattle.join_rules.proofs.explore.Goals as goal
 
 pub loop-number-init : goal.loop-number-init

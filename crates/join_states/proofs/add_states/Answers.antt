@@ -1,9 +1,9 @@
-use Rattle.std.proofs.Common.{◌≡◌, ◌+◌, ◌<◌, ◌≤◌, map, length, get_or, None, sym, refl, ap, ◌∙◌, subst, arith}
+use Rattle.std.proofs.Common.{◌<◌, map, length, get_or, None, sym, arith}
 use Rattle.std.proofs.lemmas.List.{length-map, get_or-map}
 use Rattle.std.proofs.lemmas.Result.{err_from_is_err_and}
 use Rattle.table.specs.Table.{table_of}
 use Rattle.join_laws.specs.Joined.{final_at}
-use Rattle.join_states.proofs.Endings.{Ending, ending_none, ending_more, ending_refused, ending_done}
+use Rattle.join_states.proofs.Endings.{ending_none, ending_more, ending_refused, ending_done}
 use Rattle.join_states.proofs.add_states.Goals as goal
 
 pub loop-number-init : goal.loop-number-init

@@ -1,7 +1,7 @@
-use Rattle.std.proofs.Common.{◌≡◌, ◌+◌, ◌<◌, ◌≤◌, [], ◌∷◌, ◌++◌, map, length, get_or, take, sym, refl, ap, ◌∙◌, subst, arith}
+use Rattle.std.proofs.Common.{◌<◌, map, get_or, take, sym, ap, arith}
 use Rattle.std.proofs.ByRecursion.{All-get_or}
 use Rattle.std.proofs.lemmas.List.{take_all, map_more, length-map, length-take-le}
-use Rattle.join_ways.proofs.Splices.{Mid, mid_none, mid_push, mid_same, mid_length}
+use Rattle.join_ways.proofs.Splices.{mid_none, mid_push, mid_same, mid_length}
 use Rattle.join_states.proofs.write_constants.Goals as goal
 
 pub loop-symbol-init : goal.loop-symbol-init

@@ -1,11 +1,11 @@
-use Rattle.std.proofs.Common.{◌≡◌, ℕ, ◌+◌, ◌*◌, ◌<◌, List, [], ◌∷◌, length, set, sym, ap, ◌∙◌, subst, arith}
+use Rattle.std.proofs.Common.{◌≡◌, ℕ, ◌+◌, ◌*◌, ◌<◌, List, length, set, sym, ap, ◌∙◌, subst, arith}
 use Rattle.queue.specs.Held.{entries}
 use Rattle.table.specs.Table.{table_of}
 use Rattle.steps.specs.declared.step.Step.{Step}
 use Rattle.steps.specs.Places.{steps_needed_lem}
 use Rattle.judging.specs.Kept.{Turned}
 use Rattle.judging.specs.Frames.{room_of}
-use Rattle.equivalence.specs.Answers.{root_step, Early}
+use Rattle.equivalence.specs.Answers.{Early}
 use Rattle.equivalence.proofs.Deciding.{decided}
 use Rattle.equivalence.proofs.Starting.{cells_fit, turned_start}
 use Rattle.equivalence.proofs.compare.compare.Goals as goal

@@ -1,6 +1,6 @@
-use Rattle.std.proofs.Common.{◌≡◌, ℕ, ◌+◌, ◌<◌, List, length, Some, None, sym, ap, ◌∙◌, subst, arith}
+use Rattle.std.proofs.Common.{◌<◌, List, length, Some, sym, ap, ◌∙◌, subst, arith}
 use Rattle.std.proofs.lemmas.Bool.{both_ways}
-use Rattle.queue.specs.Held.{entries, room}
+use Rattle.queue.specs.Held.{entries}
 use Rattle.machine.specs.Compared.{Told}
 use Rattle.table.specs.Table.{table_of}
 use Rattle.filter.specs.Machines.{machine_of}

@@ -1,4 +1,4 @@
-use Rattle.std.proofs.Common.{◌≡◌, ◌-◌, ◌≤◌}
+use Rattle.std.proofs.Common.{◌≡◌, ◌-◌}
 use Rattle.queue.specs.Held.{entries, room}
 use Rattle.table.specs.Table.{table_of}
 use Rattle.judging.specs.Kept.{Turned}

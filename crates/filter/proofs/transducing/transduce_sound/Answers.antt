@@ -1,4 +1,4 @@
-use Rattle.std.proofs.Common.{◌≡◌, ◌+◌, ◌<◌, ◌≤◌, length, Ok, Err, sym, refl, ap, ◌∙◌, arith}
+use Rattle.std.proofs.Common.{◌+◌, ◌<◌, ◌≤◌, length, Ok, Err, sym, refl, ap, ◌∙◌, arith}
 use Rattle.table.specs.Table.{table_of}
 use Rattle.filter.specs.declared.outcome.Outcome.TheVariants.{Written}
 use Rattle.filter.specs.declared.outcome.TransduceFault.TheVariants.{ShortOutput}

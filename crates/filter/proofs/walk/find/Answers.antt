@@ -1,8 +1,8 @@
-use Rattle.std.proofs.Common.{◌≡◌, true, false, Some, None, sym, refl, ap, ◌∙◌, arith}
+use Rattle.std.proofs.Common.{◌≡◌, true, false, Some, None, sym, refl, ◌∙◌, arith}
 use Rattle.std.proofs.lemmas.List.{at_drop_all}
 use Rattle.std.proofs.lemmas.Option.{slice_get_read}
 use Rattle.std.proofs.lemmas.Bool.Decides.{nat_tests}
-use Rattle.table.specs.Table.{table_of, rule_total_of}
+use Rattle.table.specs.Table.{table_of}
 use Rattle.table.proofs.Outputs.{total_more}
 use Rattle.filter.specs.Machines.{applies, found}
 use Rattle.filter.proofs.Finds.{found_here, found_later, found_leads}

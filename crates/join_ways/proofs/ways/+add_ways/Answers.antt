@@ -1,4 +1,4 @@
-use Rattle.std.proofs.Common.{◌≡◌, ℕ, ◌+◌, ◌-◌, ◌<◌, ◌≤◌, true, false, eqb, List, [], ◌∷◌, ◌++◌, map, length, get_or, take, drop, set, Some, None, Ok, Err, sym, refl, ap, ◌∙◌, subst, arith, rules}
+use Rattle.std.proofs.Common.{◌≡◌, ◌+◌, ◌-◌, true, false, eqb, [], ◌∷◌, map, get_or, take, drop, sym, refl, ap, ◌∙◌, subst, arith, rules}
 use Rattle.std.proofs.ByRecursion.{All-get_or}
 use Rattle.std.proofs.lemmas.List.{drop_more, length-set}
 use Rattle.std.proofs.lemmas.Option.{slice_get_read}
@@ -6,13 +6,13 @@ use Rattle.std.proofs.lemmas.Result.{err_from_is_err_and}
 use Rattle.std.proofs.lemmas.Bool.Decides.{nat_tests}
 use Rattle.alphabet.specs.Model.{SoundTerm}
 use Rattle.table.specs.Table.{table_of}
-use Rattle.join_laws.specs.Lines.{lines_of, line_of}
-use Rattle.join_laws.specs.Ways.{ways, followed_by}
+use Rattle.join_laws.specs.Lines.{lines_of}
+use Rattle.join_laws.specs.Ways.{ways}
 use Rattle.join_ways.specs.declared.write.Span.{Span}
 use Rattle.join_ways.specs.Paths.{within, along, raw_line, whole_line}
 use Rattle.join_ways.specs.Added.{Adds, Added, Fits}
 use Rattle.join_ways.proofs.Adds.{rules_long, outputs_long}
-use Rattle.join_ways.proofs.Goings.{Going, going_start, going_end, going_skip, going_on, going_refused, ends_within, span_sound}
+use Rattle.join_ways.proofs.Goings.{going_start, going_end, going_skip, going_on, going_refused, ends_within, span_sound}
 use Rattle.join_ways.proofs.Steps.{by_other, by_empty, by_some, ways_done, spans_sound, along_on, path_kept}
 use Rattle.join_ways.proofs.ways.+add_ways.Goals as goal
 use Rattle.join_ways.proofs.ways.+add_ways.Goals.{then-rule-state+in-Some+in_ok-so_far, else-rule-state}

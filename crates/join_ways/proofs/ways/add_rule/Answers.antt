@@ -1,10 +1,7 @@
-use Rattle.std.proofs.Common.{◌≡◌, ◌+◌, ◌-◌, ◌≤◌, map, length, set, sym, refl, ap, ◌∙◌, arith}
+use Rattle.std.proofs.Common.{◌≡◌, ◌-◌, map, length, arith}
 use Rattle.std.proofs.lemmas.Result.{err_from_is_err_and}
-use Rattle.join_laws.specs.Lines.{rule_of_lem}
 use Rattle.join_ways.specs.Paths.{within, along, whole_line}
-use Rattle.join_ways.specs.Added.{Adds, Added}
-use Rattle.join_ways.proofs.Splices.{Mid}
-use Rattle.join_ways.proofs.Adds.{one_refused, one_over, one_full, one_added}
+use Rattle.join_ways.proofs.Adds.{one_refused, one_added}
 use Rattle.join_ways.proofs.ways.add_rule.Goals as goal
 
 pub returns-in_err-to : goal.returns-in_err-to

@@ -1,12 +1,10 @@
-use Rattle.std.proofs.Common.{◌≡◌, ℕ, ◌+◌, ◌-◌, ◌<◌, ◌≤◌, List, [], ◌∷◌, ◌++◌, map, length, get_or, take, drop, sym, refl, ap, ◌∙◌, arith, rules}
-use Rattle.std.specs.List.{AllByRecursion}
+use Rattle.std.proofs.Common.{◌≡◌, ◌+◌, ◌<◌, [], map, length, get_or, take, sym, ap, ◌∙◌, arith, rules}
 use Rattle.std.proofs.ByRecursion.{All-get_or}
-use Rattle.std.proofs.lemmas.List.{take_all, length-append, length-map, get_or-map, get_or_default}
+use Rattle.std.proofs.lemmas.List.{take_all, length-append, length-map, get_or-map}
 use Rattle.std.proofs.lemmas.Result.{err_from_is_err_and}
 use Rattle.alphabet.specs.Model.{SoundTerm}
 use Rattle.table.proofs.Turns.{all_read}
 use Rattle.join_laws.specs.Ways.{followed_by}
-use Rattle.join_ways.specs.declared.write.Span.{Span}
 use Rattle.join_ways.specs.Paths.{within, SoundSpan, along}
 use Rattle.join_ways.proofs.Splices.{Mid, mid_none, mid_more, mid_same, mid_length}
 use Rattle.join_ways.proofs.Followed.{along_more, along_none, along_front}

@@ -1,9 +1,9 @@
-use Rattle.std.proofs.Common.{◌≡◌, ◌+◌, ◌<◌, [], ◌∷◌, ◌++◌, length, take, Some, None, sym, refl, ap, ◌∙◌, append-nil, arith}
+use Rattle.std.proofs.Common.{◌+◌, [], ◌∷◌, length, take, Some, None, sym, ap, ◌∙◌, append-nil, arith}
 use Rattle.std.proofs.lemmas.List.{take_all, length-append}
 use Rattle.alphabet.specs.Model.{SoundTerm}
 use Rattle.table.proofs.Turns.{all_read}
 use Rattle.join_laws.specs.Ways.{followed_by}
-use Rattle.join_ways.proofs.Splices.{Mid, mid_none, mid_push, mid_same, mid_length}
+use Rattle.join_ways.proofs.Splices.{mid_none, mid_push, mid_same, mid_length}
 use Rattle.join_ways.proofs.Followed.{followed_more, followed_front}
 use Rattle.join_ways.proofs.write.write_followed.Goals as goal
 

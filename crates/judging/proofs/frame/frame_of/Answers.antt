@@ -1,4 +1,4 @@
-use Rattle.std.proofs.Common.{◌≡◌, ◌+◌, ◌*◌, ◌≤◌, length, sym, refl, ap, ◌∙◌, mul-le-mul, arith}
+use Rattle.std.proofs.Common.{◌+◌, ◌*◌, ◌≤◌, length, refl, ap, mul-le-mul, arith}
 use Rattle.table.specs.Table.{table_of}
 use Rattle.steps.proofs.Placing.{product_most}
 use Rattle.judging.proofs.Widths.{longest_few}

@@ -1,8 +1,8 @@
-use Rattle.std.proofs.Common.{◌≡◌, ◌+◌, ◌*◌, ◌≤◌, true, false, length, sym, ◌∙◌, mul-le-mul_right, arith}
+use Rattle.std.proofs.Common.{◌+◌, ◌≤◌, true, false, sym, ◌∙◌, mul-le-mul_right, arith}
 use Rattle.std.proofs.lemmas.Bool.{both_ways}
 use Rattle.table.specs.Table.{table_of}
 use Rattle.steps.specs.Steps.{at}
-use Rattle.steps.specs.Places.{steps_needed_lem, Proper}
+use Rattle.steps.specs.Places.{steps_needed_lem}
 use Rattle.steps.proofs.Placing.{place_below, place_room}
 use Rattle.judging.proofs.Judging.{proper_first, proper_again, step_attached, next_attached, step_room, next_earlier, judged_half, judged_same, judged_twice, next_lag, step_lag}
 use Rattle.judging.proofs.judge.judge.Goals as goal

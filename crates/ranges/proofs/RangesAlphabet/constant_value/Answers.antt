@@ -1,5 +1,4 @@
-use Prim.Native.Nat.{◌≤◌}
-use mathlib.Core.Path.{◌≡◌, sym, ◌∙◌, ap}
+use mathlib.Core.Path.{sym, ◌∙◌, ap}
 use native.Mathlib.Omega.{arith}
 use Rattle.alphabet.specs.Questions.{constant_of}
 use Rattle.range_laws.specs.Ranges.{ranges, clamped}

@@ -1,4 +1,3 @@
-use mathlib.Core.Path.{◌≡◌, sym, ◌∙◌}
 use native.Mathlib.Omega.{arith}
 use Rattle.range_laws.specs.Ranges.{clamped}
 use Rattle.range_laws.proofs.Questions.{suits_ends}

@@ -1,4 +1,4 @@
-use Rattle.std.proofs.Common.{◌≡◌, sym, ◌∙◌}
+use Rattle.std.proofs.Common.{sym, ◌∙◌}
 use Rattle.replay.specs.Replays.{lag_by}
 use Rattle.replay.proofs.Fronts.{lag_fronts}
 use Rattle.replay.proofs.compared.same_lags.Goals as goal

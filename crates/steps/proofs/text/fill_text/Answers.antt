@@ -1,4 +1,4 @@
-use Rattle.std.proofs.Common.{◌≡◌, ◌+◌, ◌-◌, ◌<◌, ◌≤◌, ◌++◌, length, drop, set, sym, ap, ◌∙◌, arith, rules}
+use Rattle.std.proofs.Common.{◌≡◌, ◌+◌, ◌-◌, ◌≤◌, ◌++◌, length, drop, set, sym, ap, ◌∙◌, arith, rules}
 use Rattle.steps.specs.Steps.{at, text}
 use Rattle.steps.proofs.Texts.{text_zero, text_length_more, text_filled}
 use Rattle.steps.proofs.text.fill_text.Goals as goal

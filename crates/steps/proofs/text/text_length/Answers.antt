@@ -1,4 +1,4 @@
-use Rattle.std.proofs.Common.{◌≡◌, length, ap, ◌∙◌, arith}
+use Rattle.std.proofs.Common.{◌≡◌, length, ap, arith}
 use Rattle.steps.specs.Steps.{text}
 use Rattle.steps.proofs.Texts.{text_zero, text_short, text_length_more}
 use Rattle.steps.proofs.text.text_length.Goals as goal

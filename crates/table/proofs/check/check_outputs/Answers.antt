@@ -1,4 +1,4 @@
-use Rattle.std.proofs.Common.{◌≡◌, ◌+◌, drop, Err, sym, refl, ap, ◌∙◌, add_assoc}
+use Rattle.std.proofs.Common.{◌+◌, drop, Err, sym, ap, ◌∙◌, add_assoc}
 use Rattle.std.proofs.lemmas.List.{at_drop_all}
 use Rattle.std.proofs.lemmas.Result.{err_from_is_err_and}
 use Rattle.table.specs.Check.{each, check_output_lem}

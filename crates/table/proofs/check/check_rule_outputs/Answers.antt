@@ -3,7 +3,6 @@ use Rattle.std.proofs.lemmas.List.{at_drop_all, length-take}
 use Rattle.std.proofs.lemmas.Result.{err_from_is_err_and}
 use Rattle.alphabet.specs.Model.{SoundGuard}
 use Rattle.table.specs.declared.entries.Rule.{Rule}
-use Rattle.table.specs.Table.{rule_total_of}
 use Rattle.table.specs.Check.{each, check_output_lem, check_rule_outputs_lem}
 use Rattle.table.proofs.Turns.{all_read}
 use Rattle.table.proofs.Outputs.{outputs_stop, outputs_go_on, total_more}

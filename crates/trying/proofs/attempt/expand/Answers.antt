@@ -1,5 +1,5 @@
-use Rattle.std.proofs.Common.{◌≡◌, Some, None, sym, refl, ap, ◌∙◌, subst, arith}
-use Rattle.queue.specs.Held.{entries, room}
+use Rattle.std.proofs.Common.{sym, refl, ◌∙◌, arith}
+use Rattle.queue.specs.Held.{entries}
 use Rattle.table.specs.Table.{table_of}
 use Rattle.trying.proofs.Tries.{going_reach, going_end}
 use Rattle.trying.proofs.attempt.expand.Goals as goal

@@ -1,7 +1,7 @@
-use Rattle.std.proofs.Common.{◌≡◌, sym, ◌∙◌, subst, rules}
+use Rattle.std.proofs.Common.{◌≡◌, sym, subst, rules}
 use Rattle.table.specs.Table.{table_of}
 use Rattle.holdings.specs.Memory.{memory_of}
-use Rattle.holdings.specs.Append.{appended, room_for, Adds}
+use Rattle.holdings.specs.Append.{appended, Adds}
 use Rattle.holdings.proofs.Appends.{adds}
 use Rattle.holdings.proofs.memory.Shelf.append.Goals as goal
 
