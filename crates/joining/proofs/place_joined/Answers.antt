@@ -9,8 +9,8 @@ use Rattle.shelf_law.proofs.Laws.{joined_sound}
 use Rattle.joining.proofs.Joinings.{roomy, held_by, front_joined}
 use Rattle.joining.proofs.place_joined.Goals as goal
 
-pub returns-in-default : goal.returns-in-default
-returns-in-default g c =
+pub returns-in_default : goal.returns-in_default
+returns-in_default g c =
     let m = g.A.Alphabet.model in
     let M = memory_of c.args.shelf.now in
     let J = joined_at m M c.args.first c.args.second in
@@ -18,7 +18,7 @@ returns-in-default g c =
     let R = c.args.rules.now in
     let O = c.args.outputs.now in
     let n = length c.args.pairs.now in
-    too_large c.args.first c.args.second (lists_of (length S) (length R) (length O) n) c.requires.readable c.requires.first c.requires.second (λ limited h. c.in-default.ensures (roomy J n S R O limited h))
+    too_large c.args.first c.args.second (lists_of (length S) (length R) (length O) n) c.requires.readable c.requires.first c.requires.second (λ limited h. c.in_default.ensures (roomy J n S R O limited h))
 
 pub place-requires : goal.place-requires
 place-requires g c =
@@ -26,7 +26,7 @@ place-requires g c =
     let M = memory_of c.args.shelf.now in
     let J = joined_at m M c.args.first c.args.second in
     let b = c.in-Ok.ensures in
-    let is = c.front-of-draft.ensures ∙ front_joined J (length c.args.pairs.now) c.args.states.now c.args.rules.now c.args.outputs.now c.in-Ok.sizes c.compose-views.new.states c.compose-views.new.rules c.compose-views.new.outputs b in
+    let is = c.front_of-draft.ensures ∙ front_joined J (length c.args.pairs.now) c.args.states.now c.args.rules.now c.args.outputs.now c.in-Ok.sizes c.compose_views.new.states c.compose_views.new.rules c.compose_views.new.outputs b in
     record {
       readable = c.requires.readable;
       sound = subst (Sound m) (sym is) (joined_sound m g.A.Alphabet.laws (scratch_of 0 0) M c.requires.readable c.args.first c.args.second c.requires.first c.requires.second b.roomy.limited);
@@ -44,6 +44,6 @@ returns g c =
     let b = c.in-Ok.ensures in
     let A = memory_of c.place.new.shelf in
     let scratch = scratch_of (length c.args.steps.now) (length c.args.symbols.now) in
-    let is = c.front-of-draft.ensures ∙ front_joined J n S R O c.in-Ok.sizes c.compose-views.new.states c.compose-views.new.rules c.compose-views.new.outputs b in
+    let is = c.front_of-draft.ensures ∙ front_joined J n S R O c.in-Ok.sizes c.compose_views.new.states c.compose_views.new.rules c.compose_views.new.outputs b in
     joins c.args.first c.args.second (lists_of (length S) (length R) (length O) n) c.place.result A c.requires.readable c.requires.first c.requires.second b.roomy.limited (held_by J n S R O b.roomy)
     (subst (λ X. Placing m scratch M X c.place.result A) is c.place.ensures)

@@ -11,39 +11,39 @@ use Rattle.shelf.specs.Lent.{lent}
 use Rattle.shelf.proofs.Refusals.{placed_has, placeless_none}
 use Rattle.shelf.proofs.compare.compare.Goals as goal
 
-pub returns-in-err-check : goal.returns-in-err-check
-returns-in-err-check g c =
+pub returns-in_err-check : goal.returns-in_err-check
+returns-in_err-check g c =
     let m = g.A.Alphabet.model in
     let M = memory_of c.args.shelf.now in
     let w = c.args.witness.now in
-    let p = err_from_is_err_and c.from-residual.result c.from-residual.ensures.1 in
+    let p = err_from_is_err_and c.from_residual.result c.from_residual.ensures.1 in
     record {
-      compares = subst (λ r. Compares m (lent c.args.scratch) M c.args.first c.args.second w r w) (sym (p.1 ∙ ap Err p.2)) (unreadable c.in-err-check.field-0.0 (sym c.check.ensures ∙ c.in-err-check.was));
+      compares = subst (λ r. Compares m (lent c.args.scratch) M c.args.first c.args.second w r w) (sym (p.1 ∙ ap Err p.2)) (unreadable c.in_err-check.field-0.0 (sym c.check.ensures ∙ c.in_err-check.was));
       told = history_told m g.A.Alphabet.laws M;
     }
 
-pub returns-in-err-one : goal.returns-in-err-one
-returns-in-err-one g c =
+pub returns-in_err-one : goal.returns-in_err-one
+returns-in_err-one g c =
     let m = g.A.Alphabet.model in
     let M = memory_of c.args.shelf.now in
     let w = c.args.witness.now in
-    let p = err_from_is_err_and c.from-residual-in-err-one.result c.from-residual-in-err-one.ensures.1 in
-    let none = placeless_none M c.args.first c.in-err-one.field-0.0 (sym c.place.ensures ∙ c.in-err-one.was) in
-    let ok = sym c.check.ensures ∙ c.in-ok-check.was in
+    let p = err_from_is_err_and c.from_residual-in_err-one.result c.from_residual-in_err-one.ensures.1 in
+    let none = placeless_none M c.args.first c.in_err-one.field-0.0 (sym c.place.ensures ∙ c.in_err-one.was) in
+    let ok = sym c.check.ensures ∙ c.in_ok-check.was in
     record {
       compares = subst (λ r. Compares m (lent c.args.scratch) M c.args.first c.args.second w r w) (sym (p.1 ∙ ap Err (p.2 ∙ none.1))) (no_first ok none.0);
       told = history_told m g.A.Alphabet.laws M;
     }
 
-pub returns-in-err-other : goal.returns-in-err-other
-returns-in-err-other g c =
+pub returns-in_err-other : goal.returns-in_err-other
+returns-in_err-other g c =
     let m = g.A.Alphabet.model in
     let M = memory_of c.args.shelf.now in
     let w = c.args.witness.now in
-    let p = err_from_is_err_and c.from-residual-in-err-other.result c.from-residual-in-err-other.ensures.1 in
-    let has = placed_has M c.args.first c.in-ok-one.one (sym c.place.ensures ∙ c.in-ok-one.was) in
-    let none = placeless_none M c.args.second c.in-err-other.field-0.0 (sym c.place-2.ensures ∙ c.in-err-other.was) in
-    let ok = sym c.check.ensures ∙ c.in-ok-check.was in
+    let p = err_from_is_err_and c.from_residual-in_err-other.result c.from_residual-in_err-other.ensures.1 in
+    let has = placed_has M c.args.first c.in_ok-one.one (sym c.place.ensures ∙ c.in_ok-one.was) in
+    let none = placeless_none M c.args.second c.in_err-other.field-0.0 (sym c.place-2.ensures ∙ c.in_err-other.was) in
+    let ok = sym c.check.ensures ∙ c.in_ok-check.was in
     record {
       compares = subst (λ r. Compares m (lent c.args.scratch) M c.args.first c.args.second w r w) (sym (p.1 ∙ ap Err (p.2 ∙ none.1))) (no_second ok has.0 none.0);
       told = history_told m g.A.Alphabet.laws M;
@@ -52,24 +52,24 @@ returns-in-err-other g c =
 pub view-left-requires : goal.view-left-requires
 view-left-requires g c =
     let M = memory_of c.args.shelf.now in
-    let has = placed_has M c.args.first c.in-ok-one.one (sym c.place.ensures ∙ c.in-ok-one.was) in
-    record { fits = readable_fits g.A.Alphabet.model M (sym c.check.ensures ∙ c.in-ok-check.was); within = omega (arith, has.0.0, has.0.1, has.1) }
+    let has = placed_has M c.args.first c.in_ok-one.one (sym c.place.ensures ∙ c.in_ok-one.was) in
+    record { fits = readable_fits g.A.Alphabet.model M (sym c.check.ensures ∙ c.in_ok-check.was); within = omega (arith, has.0.0, has.0.1, has.1) }
 
 pub view-right-requires : goal.view-right-requires
 view-right-requires g c =
     let M = memory_of c.args.shelf.now in
-    let has = placed_has M c.args.second c.in-ok-other.other (sym c.place-2.ensures ∙ c.in-ok-other.was) in
-    record { fits = readable_fits g.A.Alphabet.model M (sym c.check.ensures ∙ c.in-ok-check.was); within = omega (arith, has.0.0, has.0.1, has.1) }
+    let has = placed_has M c.args.second c.in_ok-other.other (sym c.place-2.ensures ∙ c.in_ok-other.was) in
+    record { fits = readable_fits g.A.Alphabet.model M (sym c.check.ensures ∙ c.in_ok-check.was); within = omega (arith, has.0.0, has.0.1, has.1) }
 
 pub distinguish-requires : goal.distinguish-requires
 distinguish-requires g c =
     let m = g.A.Alphabet.model in
     let M = memory_of c.args.shelf.now in
-    let ok = sym c.check.ensures ∙ c.in-ok-check.was in
-    let i = c.in-ok-one.one in
-    let j = c.in-ok-other.other in
-    let one = placed_has M c.args.first i (sym c.place.ensures ∙ c.in-ok-one.was) in
-    let other = placed_has M c.args.second j (sym c.place-2.ensures ∙ c.in-ok-other.was) in
+    let ok = sym c.check.ensures ∙ c.in_ok-check.was in
+    let i = c.in_ok-one.one in
+    let j = c.in_ok-other.other in
+    let one = placed_has M c.args.first i (sym c.place.ensures ∙ c.in_ok-one.was) in
+    let other = placed_has M c.args.second j (sym c.place-2.ensures ∙ c.in_ok-other.was) in
     record {
       left = subst (Sound m) (sym c.view-left.ensures) (readable_sound m g.A.Alphabet.laws M ok i (omega (arith, one.0.0, one.0.1, one.1)));
       right = subst (Sound m) (sym c.view-right.ensures) (readable_sound m g.A.Alphabet.laws M ok j (omega (arith, other.0.0, other.0.1, other.1)));
@@ -79,9 +79,9 @@ pub returns : goal.returns
 returns g c =
     let m = g.A.Alphabet.model in
     let M = memory_of c.args.shelf.now in
-    let ok = sym c.check.ensures ∙ c.in-ok-check.was in
-    let one = placed_has M c.args.first c.in-ok-one.one (sym c.place.ensures ∙ c.in-ok-one.was) in
-    let other = placed_has M c.args.second c.in-ok-other.other (sym c.place-2.ensures ∙ c.in-ok-other.was) in
+    let ok = sym c.check.ensures ∙ c.in_ok-check.was in
+    let one = placed_has M c.args.first c.in_ok-one.one (sym c.place.ensures ∙ c.in_ok-one.was) in
+    let other = placed_has M c.args.second c.in_ok-other.other (sym c.place-2.ensures ∙ c.in_ok-other.was) in
     let left = c.view-left.ensures ∙ ap (holding M) (sym one.1) in
     let right = c.view-right.ensures ∙ ap (holding M) (sym other.1) in
     let w = c.args.witness.now in

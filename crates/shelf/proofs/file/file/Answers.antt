@@ -7,36 +7,36 @@ use Rattle.shelf_law.proofs.Laws.{law_of}
 use Rattle.shelf.specs.Lent.{lent}
 use Rattle.shelf.proofs.file.file.Goals as goal
 
-pub returns-in-err-check : goal.returns-in-err-check
-returns-in-err-check g c =
+pub returns-in_err-check : goal.returns-in_err-check
+returns-in_err-check g c =
     let m = g.A.Alphabet.model in
     let M = memory_of c.args.shelf.now in
     let q = Filing (table_of c.args.draft.now) in
-    let p = err_from_is_err_and c.from-residual.result c.from-residual.ensures.1 in
-    let D = subst (λ r. Does m (lent c.args.scratch) M q r M) (sym (p.1 ∙ ap Err p.2)) (unreadable q c.in-err-check.field-0.0 (sym c.check.ensures ∙ c.in-err-check.was)) in
+    let p = err_from_is_err_and c.from_residual.result c.from_residual.ensures.1 in
+    let D = subst (λ r. Does m (lent c.args.scratch) M q r M) (sym (p.1 ∙ ap Err p.2)) (unreadable q c.in_err-check.field-0.0 (sym c.check.ensures ∙ c.in_err-check.was)) in
     record { does = D; law = law_of m g.A.Alphabet.laws D }
 
-pub returns-in-err-check-2 : goal.returns-in-err-check-2
-returns-in-err-check-2 g c =
+pub returns-in_err-check-2 : goal.returns-in_err-check-2
+returns-in_err-check-2 g c =
     let m = g.A.Alphabet.model in
     let M = memory_of c.args.shelf.now in
     let F = table_of c.args.draft.now in
-    let p = err_from_is_err_and c.from-residual-in-err-check-2.result c.from-residual-in-err-check-2.ensures.1 in
-    let ok = sym c.check.ensures ∙ c.in-ok-check.was in
-    let D = subst (λ r. Does m (lent c.args.scratch) M (Filing F) r M) (sym (p.1 ∙ ap Err p.2)) (unsound F c.in-err-check-2.field-0.0 ok (sym c.check-2.ensures.first ∙ c.in-err-check-2.was)) in
+    let p = err_from_is_err_and c.from_residual-in_err-check-2.result c.from_residual-in_err-check-2.ensures.1 in
+    let ok = sym c.check.ensures ∙ c.in_ok-check.was in
+    let D = subst (λ r. Does m (lent c.args.scratch) M (Filing F) r M) (sym (p.1 ∙ ap Err p.2)) (unsound F c.in_err-check-2.field-0.0 ok (sym c.check-2.ensures.first ∙ c.in_err-check-2.was)) in
     record { does = D; law = law_of m g.A.Alphabet.laws D }
 
 pub place-requires : goal.place-requires
 place-requires g c = record {
-  readable = sym c.check.ensures ∙ c.in-ok-check.was;
-  sound = c.check-2.ensures.sound.0 c.in-ok-check-2.was;
+  readable = sym c.check.ensures ∙ c.in_ok-check.was;
+  sound = c.check-2.ensures.sound.0 c.in_ok-check-2.was;
 }
 
 pub returns : goal.returns
 returns g c =
     let m = g.A.Alphabet.model in
     let F = table_of c.args.draft.now in
-    let ok = sym c.check.ensures ∙ c.in-ok-check.was in
-    let fine = sym c.check-2.ensures.first ∙ c.in-ok-check-2.was in
+    let ok = sym c.check.ensures ∙ c.in_ok-check.was in
+    let fine = sym c.check-2.ensures.first ∙ c.in_ok-check-2.was in
     let D = files F c.place.result (memory_of c.place.new.shelf) ok fine c.place.ensures in
     record { does = D; law = law_of m g.A.Alphabet.laws D }

@@ -11,58 +11,58 @@ use Rattle.shelf.proofs.Refusals.{placed_has, placeless_none}
 use Rattle.shelf.proofs.Outcomes.{holding_transduces}
 use Rattle.shelf.proofs.transduce.transduce.Goals as goal
 
-pub returns-in-err-check : goal.returns-in-err-check
-returns-in-err-check g c =
+pub returns-in_err-check : goal.returns-in_err-check
+returns-in_err-check g c =
     let m = g.A.Alphabet.model in
     let M = memory_of c.args.shelf.now in
     let o = c.args.output.now in
-    let p = err_from_is_err_and c.from-residual.result c.from-residual.ensures.1 in
-    subst (λ r. TransducesAt m M c.args.number c.args.text.now o r o) (sym (p.1 ∙ ap Err p.2)) (unreadable c.in-err-check.field-0.0 (sym c.check.ensures ∙ c.in-err-check.was))
+    let p = err_from_is_err_and c.from_residual.result c.from_residual.ensures.1 in
+    subst (λ r. TransducesAt m M c.args.number c.args.text.now o r o) (sym (p.1 ∙ ap Err p.2)) (unreadable c.in_err-check.field-0.0 (sym c.check.ensures ∙ c.in_err-check.was))
 
-pub returns-in-err-place : goal.returns-in-err-place
-returns-in-err-place g c =
+pub returns-in_err-place : goal.returns-in_err-place
+returns-in_err-place g c =
     let m = g.A.Alphabet.model in
     let M = memory_of c.args.shelf.now in
     let o = c.args.output.now in
     let n = c.args.number in
-    let p = err_from_is_err_and c.from-residual-in-err-place.result c.from-residual-in-err-place.ensures.1 in
-    let none = placeless_none M n c.in-err-place.field-0.0 (sym c.place.ensures ∙ c.in-err-place.was) in
-    subst (λ r. TransducesAt m M n c.args.text.now o r o) (sym (p.1 ∙ ap Err (p.2 ∙ none.1))) (no_holding (sym c.check.ensures ∙ c.in-ok-check.was) none.0)
+    let p = err_from_is_err_and c.from_residual-in_err-place.result c.from_residual-in_err-place.ensures.1 in
+    let none = placeless_none M n c.in_err-place.field-0.0 (sym c.place.ensures ∙ c.in_err-place.was) in
+    subst (λ r. TransducesAt m M n c.args.text.now o r o) (sym (p.1 ∙ ap Err (p.2 ∙ none.1))) (no_holding (sym c.check.ensures ∙ c.in_ok-check.was) none.0)
 
 pub view-view-requires : goal.view-view-requires
 view-view-requires g c =
     let m = g.A.Alphabet.model in
     let M = memory_of c.args.shelf.now in
-    let has = placed_has M c.args.number c.in-ok-place.place (sym c.place.ensures ∙ c.in-ok-place.was) in
-    record { fits = readable_fits m M (sym c.check.ensures ∙ c.in-ok-check.was); within = omega (arith, has.0.0, has.0.1, has.1) }
+    let has = placed_has M c.args.number c.in_ok-place.place (sym c.place.ensures ∙ c.in_ok-place.was) in
+    record { fits = readable_fits m M (sym c.check.ensures ∙ c.in_ok-check.was); within = omega (arith, has.0.0, has.0.1, has.1) }
 
-pub transduce-sound-requires : goal.transduce-sound-requires
-transduce-sound-requires g c =
+pub transduce_sound-requires : goal.transduce_sound-requires
+transduce_sound-requires g c =
     let m = g.A.Alphabet.model in
     let M = memory_of c.args.shelf.now in
-    let i = c.in-ok-place.place in
-    let has = placed_has M c.args.number i (sym c.place.ensures ∙ c.in-ok-place.was) in
-    record { sound = subst (Sound m) (sym c.view-view.ensures) (readable_sound m g.A.Alphabet.laws M (sym c.check.ensures ∙ c.in-ok-check.was) i (omega (arith, has.0.0, has.0.1, has.1))) }
+    let i = c.in_ok-place.place in
+    let has = placed_has M c.args.number i (sym c.place.ensures ∙ c.in_ok-place.was) in
+    record { sound = subst (Sound m) (sym c.view-view.ensures) (readable_sound m g.A.Alphabet.laws M (sym c.check.ensures ∙ c.in_ok-check.was) i (omega (arith, has.0.0, has.0.1, has.1))) }
 
-pub returns-in-err-outcome : goal.returns-in-err-outcome
-returns-in-err-outcome g c =
+pub returns-in_err-outcome : goal.returns-in_err-outcome
+returns-in_err-outcome g c =
     let m = g.A.Alphabet.model in
     let M = memory_of c.args.shelf.now in
     let n = c.args.number in
-    let i = c.in-ok-place.place in
-    let has = placed_has M n i (sym c.place.ensures ∙ c.in-ok-place.was) in
-    let p = err_from_is_err_and c.from-residual-in-err-outcome.result c.from-residual-in-err-outcome.ensures.1 in
-    holding_transduces m g.A.Alphabet.laws M (sym c.check.ensures ∙ c.in-ok-check.was) n i has.0 has.1 (omega (arith, has.0.0, has.0.1, has.1)) (table_of c.view-view.result) c.view-view.ensures
-    c.args.text.now c.args.output.now c.transduce-sound.new.out c.transduce-sound.result c.transduce-sound.ensures.answer c.transduce-sound.ensures.output
-    c.from-residual-in-err-outcome.result (p.1 ∙ ap Err p.2 ∙ sym (ap (map_err transducing_fault) c.in-err-outcome.was))
+    let i = c.in_ok-place.place in
+    let has = placed_has M n i (sym c.place.ensures ∙ c.in_ok-place.was) in
+    let p = err_from_is_err_and c.from_residual-in_err-outcome.result c.from_residual-in_err-outcome.ensures.1 in
+    holding_transduces m g.A.Alphabet.laws M (sym c.check.ensures ∙ c.in_ok-check.was) n i has.0 has.1 (omega (arith, has.0.0, has.0.1, has.1)) (table_of c.view-view.result) c.view-view.ensures
+    c.args.text.now c.args.output.now c.transduce_sound.new.out c.transduce_sound.result c.transduce_sound.ensures.answer c.transduce_sound.ensures.output
+    c.from_residual-in_err-outcome.result (p.1 ∙ ap Err p.2 ∙ sym (ap (map_err transducing_fault) c.in_err-outcome.was))
 
 pub returns : goal.returns
 returns g c =
     let m = g.A.Alphabet.model in
     let M = memory_of c.args.shelf.now in
     let n = c.args.number in
-    let i = c.in-ok-place.place in
-    let has = placed_has M n i (sym c.place.ensures ∙ c.in-ok-place.was) in
-    holding_transduces m g.A.Alphabet.laws M (sym c.check.ensures ∙ c.in-ok-check.was) n i has.0 has.1 (omega (arith, has.0.0, has.0.1, has.1)) (table_of c.view-view.result) c.view-view.ensures
-    c.args.text.now c.args.output.now c.transduce-sound.new.out c.transduce-sound.result c.transduce-sound.ensures.answer c.transduce-sound.ensures.output
-    (Ok c.in-ok-outcome.outcome) (sym (ap (map_err transducing_fault) c.in-ok-outcome.was))
+    let i = c.in_ok-place.place in
+    let has = placed_has M n i (sym c.place.ensures ∙ c.in_ok-place.was) in
+    holding_transduces m g.A.Alphabet.laws M (sym c.check.ensures ∙ c.in_ok-check.was) n i has.0 has.1 (omega (arith, has.0.0, has.0.1, has.1)) (table_of c.view-view.result) c.view-view.ensures
+    c.args.text.now c.args.output.now c.transduce_sound.new.out c.transduce_sound.result c.transduce_sound.ensures.answer c.transduce_sound.ensures.output
+    (Ok c.in_ok-outcome.outcome) (sym (ap (map_err transducing_fault) c.in_ok-outcome.was))

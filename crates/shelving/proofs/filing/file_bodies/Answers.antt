@@ -17,7 +17,7 @@ loop-i-preserved g c =
     let same = ap (λ n. scratch_of n (length c.loop-i.symbols)) c.loop-i.auto.steps ∙ ap (scratch_of (length c.args.steps.now)) c.loop-i.auto.symbols in
     run_more g.A.Alphabet.model S (memory_of c.args.bodies.now) (memory_of c.args.shelf.now) c.loop-i.i (vec_items c.loop-i.verdicts) (memory_of c.loop-i.shelf) c.loop-i.invariant
     (scratch_of (length c.loop-i.steps) (length c.loop-i.symbols)) same (table_of c.view-body.result) c.view-body.ensures c.file-answer.result (memory_of c.file-answer.new.shelf) c.file-answer.ensures.does
-    c.verdict-of.result c.verdict-of.ensures (vec_items c.push.new.self) c.in-ok-push.ensures.items
+    c.verdict_of.result c.verdict_of.ensures (vec_items c.push.new.self) c.in_ok-push.ensures.items
 
 pub returns : goal.returns
 returns g c =

@@ -7,8 +7,8 @@ use Rattle.shelving.proofs.telling.tell_pairs.Goals as goal
 pub loop-first-init : goal.loop-first-init
 loop-first-init g c = told_none g.A.Alphabet.model (memory_of c.args.shelf.now) (vec_items c.new-lines.result) c.new-lines.ensures.items (vec_items c.new-texts.result) c.new-texts.ensures.items
 
-pub tell-row-requires : goal.tell-row-requires
-tell-row-requires g c = record {
+pub tell_row-requires : goal.tell_row-requires
+tell_row-requires g c = record {
   separable = separable_at g.A.Alphabet.model (memory_of c.args.shelf.now) _ _ _ (sym c.loop-first.auto.steps) (sym c.loop-first.auto.symbols) (sym c.loop-first.auto.witness) c.requires.separable;
   low = omega (arith, c.loop-first.auto.first);
   high = omega (arith, c.loop-first-test.true);
@@ -18,7 +18,7 @@ tell-row-requires g c = record {
 
 pub loop-first-preserved : goal.loop-first-preserved
 loop-first-preserved g c =
-    told_row g.A.Alphabet.model (memory_of c.args.shelf.now) c.loop-first.first (vec_items c.tell-row.new.lines) (vec_items c.tell-row.new.texts) c.in-ok-tell-row.ensures
+    told_row g.A.Alphabet.model (memory_of c.args.shelf.now) c.loop-first.first (vec_items c.tell_row.new.lines) (vec_items c.tell_row.new.texts) c.in_ok-tell_row.ensures
 
 pub returns : goal.returns
 returns g c =

@@ -6,21 +6,21 @@ use Rattle.shelf_law.specs.Comparing.{Earliest}
 use Rattle.shelving.proofs.Separating.{told_pair, told_length, told_front, told_within}
 use Rattle.shelving.proofs.telling.text_between.Goals as goal
 
-pub returns-in-default : goal.returns-in-default
-returns-in-default g c =
+pub returns-in_default : goal.returns-in_default
+returns-in_default g c =
     let S = scratch_of (length c.args.steps.now) (length c.args.symbols.now) in
     let w = c.args.witness.now in
     let t = told_pair g.A.Alphabet.model S (length w) (memory_of c.args.shelf.now) c.requires.separable c.args.first c.args.second c.requires.low c.requires.order c.requires.high w refl c.compare-answer.result c.compare-answer.new.witness c.compare-answer.ensures.compares in
     let a = t.answer in
-    absurd (grind (arith, a, c.in-default.is))
+    absurd (grind (arith, a, c.in_default.is))
 
-pub returns-in-default-comparison : goal.returns-in-default-comparison
-returns-in-default-comparison g c =
+pub returns-in_default-comparison : goal.returns-in_default-comparison
+returns-in_default-comparison g c =
     let S = scratch_of (length c.args.steps.now) (length c.args.symbols.now) in
     let w = c.args.witness.now in
     let t = told_pair g.A.Alphabet.model S (length w) (memory_of c.args.shelf.now) c.requires.separable c.args.first c.args.second c.requires.low c.requires.order c.requires.high w refl c.compare-answer.result c.compare-answer.new.witness c.compare-answer.ensures.compares in
     let a = t.answer in
-    absurd (grind (arith, a, c.in-Ok.is, c.in-default-comparison.is))
+    absurd (grind (arith, a, c.in-Ok.is, c.in_default-comparison.is))
 
 pub returns : goal.returns
 returns g c =
