@@ -1,8 +1,7 @@
 -- Every kind of record is read and written exactly.
-use Rattle.std.proofs.Common.{◌≡◌, ℕ, ◌+◌, ◌-◌, ◌*◌, ◌/◌, ◌%◌, ◌<◌, ◌≤◌, Bool, true, false, cond, ◌&&◌, eqb, ltb, List, [], ◌∷◌, ◌++◌, length, get_or, take, drop, ℤ, pos, negsuc, nat_abs, Some, None, Option, sym, refl, ap, ◌∙◌, inl, inr, ⊎_elim, arith, length-drop, to_z-of_z, w32, Fits, SFits, to_z, of_z, eq-eqb}
+use Rattle.std.proofs.Common.{◌≡◌, ℕ, ◌+◌, ◌<◌, Bool, true, false, cond, eqb, List, [], ◌∷◌, ◌++◌, length, drop, ℤ, pos, negsuc, nat_abs, None, sym, refl, ap, ◌∙◌, ⊎_elim, arith, length-drop, to_z-of_z, w32, SFits, to_z, of_z, eq-eqb}
 use mir.Facts.{of_z-to_z, Fits-of_z}
 use Rattle.std.proofs.ByRecursion.{All-drop}
-use Rattle.std.proofs.lemmas.List.{length-append, take-append-drop}
 use Rattle.std.proofs.lemmas.Bool.{cases_eq}
 use Rattle.std.proofs.lemmas.Bool.Decides.{nat_tests}
 use Rattle.table.specs.declared.entries.State.{State}
@@ -12,7 +11,7 @@ use Rattle.range_laws.specs.declared.RangeTerm.{RangeTerm}
 use Rattle.range_laws.specs.declared.RangeTerm.TheVariants.{Constant, Shift}
 use Rattle.shelf_holdings.specs.declared.memory.Entry.{Entry}
 use Rattle.codec_laws.specs.Code.{Code, Bytes, Exact, Free}
-use Rattle.codec_laws.specs.Numbers.{two, four, eight, at, two_at, four_at, eight_at}
+use Rattle.codec_laws.specs.Numbers.{two, four, at, two_at, four_at}
 use Rattle.codec_laws.specs.Entries.{entry_code, state_code, rule_code}
 use Rattle.codec_laws.specs.Ranges.{range_code, range_term_code, term_image, term_fits}
 use Rattle.codec_laws.proofs.Numbers.{two_back, four_back, two_again, four_again, byte_at, cells, cells_all, front_cells}

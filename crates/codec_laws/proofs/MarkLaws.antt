@@ -1,12 +1,12 @@
 -- Sets of marks and their terms are read and written exactly.
-use Rattle.std.proofs.Common.{◌≡◌, ℕ, ◌+◌, ◌%◌, ◌<◌, Bool, true, false, cond, ◌&&◌, eqb, ltb, List, [], ◌∷◌, length, Some, None, sym, refl, ap, ◌∙◌, ⊎_elim, arith, eq-eqb}
+use Rattle.std.proofs.Common.{◌≡◌, ℕ, ◌%◌, ◌<◌, Bool, true, false, cond, eqb, List, length, None, refl, ap, ◌∙◌, ⊎_elim, arith, eq-eqb}
 use Rattle.std.proofs.lemmas.Bool.{cases_eq}
 use Rattle.std.proofs.lemmas.Bool.Decides.{nat_tests}
 use Rattle.mark_laws.specs.declared.MarkSet.{MarkSet}
 use Rattle.mark_laws.specs.declared.MarkTerm.{MarkTerm}
 use Rattle.mark_laws.specs.declared.MarkTerm.TheVariants.{Constant, Turn}
 use Rattle.codec_laws.specs.Code.{Bytes, Exact, Free}
-use Rattle.codec_laws.specs.Numbers.{eight, at, four_at, eight_at}
+use Rattle.codec_laws.specs.Numbers.{at, four_at}
 use Rattle.codec_laws.specs.Marks.{set_code, mark_term_code, term_image, term_fits, term_wrong}
 use Rattle.codec_laws.proofs.Numbers.{four_back, eight_back, eight_again, byte_at, cells, cells_all}
 use Rattle.codec_laws.proofs.Laws.{cong2, tagged}

@@ -1,5 +1,5 @@
 -- The entries of a ledger, states and rules as bytes.
-use Rattle.std.specs.Prelude.{ℕ, Bool, ◌&&◌, List, ◌∷◌, ◌++◌, drop, None, nat_lt}
+use Rattle.std.specs.Prelude.{◌&&◌, ◌∷◌, ◌++◌, drop, None, nat_lt}
 use Rattle.table.specs.declared.entries.State.{State}
 use Rattle.table.specs.declared.entries.Rule.{Rule}
 use Rattle.shelf_holdings.specs.declared.memory.Entry.{Entry}

@@ -133,7 +133,7 @@ impl Flat for FlatTerm {
 
 // The entries that flat ones stand for.
 pub fn entries<F: Flat + Copy>(heap: Global, flat: &[F]) -> Result<Vec<F::Entry>, AllocError>
-    ensures { IfOk result (λ v. v.items ≡ map meaning flat.now) }
+    ensures { IfOk result (λ v. v.items ≡ map F.meaning flat.now) }
 {
     let mut list = Vec::new(heap);
     for item in flat {
@@ -145,7 +145,7 @@ pub fn entries<F: Flat + Copy>(heap: Global, flat: &[F]) -> Result<Vec<F::Entry>
 // Writes entries to the front of a list of flat ones that has room for them.
 pub fn spread<F: Flat + Copy>(entries: &[F::Entry], list: &mut [F])
     requires { length entries.now ≤ length list.old }
-    ensures { list.new ≡ map shape entries.now ++ drop (length entries.now) list.old }
+    ensures { list.new ≡ map F.shape entries.now ++ drop (length entries.now) list.old }
 {
     for i in 0..entries.len() {
         list[i] = F::flat(entries[i]);

@@ -1,9 +1,8 @@
 -- What appending leaves is what putting a filter on a shelf has to leave.
-use Rattle.std.proofs.Common.{◌≡◌, ℕ, ◌+◌, ◌≤◌, Bool, true, false, cond, Ok, Err, Result, sym, refl, ap, ◌∙◌, subst, arith}
+use Rattle.std.proofs.Common.{◌≡◌, Bool, true, false, cond, Ok, Err, sym, ap, ◌∙◌, subst, arith}
 use Rattle.alphabet.specs.Model.{Model}
 use Rattle.table.specs.Table.{Table}
 use Rattle.filter.specs.Meaning.{Equivalent}
-use Rattle.answers.specs.declared.fault.Fault.{Fault}
 use Rattle.answers.specs.declared.fault.Fault.TheVariants.{Full}
 use Rattle.shelf_holdings.specs.Memory.{Memory}
 use Rattle.shelf_holdings.specs.Append.{room_for, appended}

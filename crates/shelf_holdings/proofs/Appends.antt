@@ -1,7 +1,7 @@
 -- After a table is put behind the holdings: the shelf fits, the holdings are as they were, and the table is the last.
-use Rattle.std.proofs.Common.{◌≡◌, ℕ, ◌+◌, ◌-◌, ◌<◌, ◌≤◌, true, eqb, leb, List, [], ◌∷◌, ◌++◌, length, get_or, take, drop, set, Some, sum_by, sym, refl, ap, ◌∙◌, arith}
+use Rattle.std.proofs.Common.{◌≡◌, ℕ, ◌+◌, ◌-◌, ◌<◌, ◌≤◌, true, List, [], ◌∷◌, ◌++◌, length, get_or, take, drop, Some, sum_by, sym, refl, ap, ◌∙◌, arith}
 use Rattle.std.specs.List.{slice_get}
-use Rattle.std.proofs.lemmas.List.{drop_at, drop-append-le, drop-drop, get_or_append_left, get_or_at, length-append, length-drop, length_push, length-set, length-take-le, take-append-le, take_at, take_more_set, take-take}
+use Rattle.std.proofs.lemmas.List.{drop_at, drop-append-le, get_or_append_left, get_or_at, length-append, length-drop, length_push, length-set, length-take-le, take-append-le, take_at, take_more_set, take-take}
 use Rattle.std.proofs.lemmas.Option.{slice_get-get_or}
 use Rattle.std.proofs.lemmas.Slice.{between_is}
 use Rattle.std.proofs.lemmas.List.Sums.{sum_by_push}
@@ -12,7 +12,7 @@ use Rattle.table.specs.Table.{Table, stretch}
 use Rattle.filter.proofs.Finals.{stretch_is}
 use Rattle.filter.proofs.Finds.{total_upto}
 use Rattle.shelf_holdings.specs.declared.memory.Entry.{Entry}
-use Rattle.shelf_holdings.specs.Memory.{Memory, in_use, states_of_lem, rules_of, outputs_of_lem, fits, holding}
+use Rattle.shelf_holdings.specs.Memory.{Memory, in_use, fits, holding}
 use Rattle.shelf_holdings.specs.Append.{over, room_for, entry_of, appended, Adds}
 use Rattle.shelf_holdings.proofs.Parts.{blank, Fitting, fitting}
 

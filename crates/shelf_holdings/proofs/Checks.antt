@@ -1,5 +1,5 @@
 -- One turn of the check of all holdings.
-use Rattle.std.proofs.Common.{◌≡◌, ℕ, ◌+◌, ◌<◌, ◌≤◌, true, cond, List, ◌∷◌, length, take, drop, Ok, Err, Result, sym, refl, ap, ◌∙◌, arith}
+use Rattle.std.proofs.Common.{◌≡◌, ℕ, ◌+◌, ◌<◌, ◌≤◌, true, cond, length, drop, Ok, Err, Result, sym, refl, ap, ◌∙◌, arith}
 use Rattle.std.proofs.lemmas.List.{at_drop_more, at_drop_all, length-take-le}
 use Rattle.alphabet.specs.Model.{Model}
 use Rattle.table.specs.declared.fault.TableFault.{TableFault}
@@ -10,7 +10,7 @@ use Rattle.answers.specs.declared.fault.Fault.TheVariants.{Misfit, Unsound}
 use Rattle.answers.specs.declared.fault.AtHolding.{AtHolding}
 use Rattle.shelf_holdings.specs.Memory.{Memory, in_use, fits, holding}
 use Rattle.shelf_holdings.specs.Check.{next, check_from, checked_shelf}
-use Rattle.shelf_holdings.proofs.Parts.{blank, Fitting, fitting}
+use Rattle.shelf_holdings.proofs.Parts.{blank, fitting}
 
 -- a fault with its holding's number beside it
 abbrev pub at : ℕ → TableFault → AtHolding

@@ -1,5 +1,5 @@
 -- The holding that a joining answers with is the composition of the two that were joined.
-use Rattle.std.proofs.Common.{◌≡◌, ℕ, ◌+◌, ◌-◌, ◌<◌, ◌≤◌, Bool, true, false, cond, ◌⊎◌, List, [], ◌∷◌, Ok, Err, Result, sym, refl, ap, ◌∙◌, subst, inl, inr, arith}
+use Rattle.std.proofs.Common.{◌≡◌, ℕ, ◌+◌, ◌-◌, Bool, true, false, cond, ◌⊎◌, List, [], ◌∷◌, Ok, Err, Result, sym, refl, ap, ◌∙◌, subst, inl, inr, arith}
 use Rattle.alphabet.specs.Model.{Model}
 use Rattle.alphabet.specs.Laws.{Lawful}
 use Rattle.table.specs.Table.{Table}
@@ -13,12 +13,12 @@ use Rattle.join_laws.proofs.Joining.{joins as joining-laws}
 use Rattle.shelf_holdings.specs.declared.memory.Entry.{Entry}
 use Rattle.shelf_holdings.specs.Memory.{Memory, in_use, fits, holding}
 use Rattle.shelf_holdings.specs.Check.{next, check_from, checked_shelf}
-use Rattle.shelf_holdings.specs.Append.{appended, Adds}
+use Rattle.shelf_holdings.specs.Append.{appended}
 use Rattle.shelf_holdings.proofs.Appends.{adds}
-use Rattle.shelf_law.specs.Holdings.{Has, numbered, Lowest}
+use Rattle.shelf_law.specs.Holdings.{Has, numbered}
 use Rattle.shelf_law.specs.Scratch.{Scratch, Lists}
 use Rattle.shelf_law.specs.Placing.{Placing, short_scratch, double, full, held}
-use Rattle.shelf_law.specs.Calls.{Request, Filing, Joining, Readable, joined_at, Does, unreadable, unsound, no_first, no_second, too_large, files, joins}
+use Rattle.shelf_law.specs.Calls.{Request, Joining, Readable, joined_at, Does, unreadable, unsound, no_first, no_second, too_large, files, joins}
 use Rattle.shelf_law.specs.Composition.{Composition, JoinedUnder}
 use Rattle.shelf_law.proofs.Readable.{readable_fits, readable_sound}
 

@@ -1,5 +1,5 @@
 -- The law of the collection, by induction over the history.
-use Rattle.std.proofs.Common.{◌≡◌, ℕ, ◌+◌, ◌-◌, ◌<◌, ◌≤◌, true, false, ◌⊎◌, List, [], ◌∷◌, length, Ok, Err, Result, sym, refl, ap, ◌∙◌, subst, inl, inr, arith}
+use Rattle.std.proofs.Common.{◌≡◌, ℕ, ◌+◌, ◌-◌, ◌<◌, ◌≤◌, true, ◌⊎◌, List, [], ◌∷◌, length, Ok, Err, Result, sym, refl, ap, ◌∙◌, subst, inl, inr, arith}
 use Rattle.std.proofs.ByRecursion.{All-weaker}
 use Rattle.alphabet.specs.Model.{Model}
 use Rattle.alphabet.specs.Laws.{Lawful}
@@ -10,7 +10,7 @@ use Rattle.table.proofs.Soundness.{checked_from_sound, sound_from_checked}
 use Rattle.filter.specs.Meaning.{Equivalent}
 use Rattle.answers.specs.declared.comparison.Comparison.{Comparison}
 use Rattle.answers.specs.declared.fault.Fault.{Fault}
-use Rattle.answers.specs.declared.fault.Fault.TheVariants.{ShortScratch, Double, Full}
+use Rattle.answers.specs.declared.fault.Fault.TheVariants.{Double}
 use Rattle.equivalence.specs.Answers.{steps_for}
 use Rattle.join_laws.specs.Theorems.{Limited}
 use Rattle.join_laws.proofs.Joining.{joins as joining-laws}
@@ -19,13 +19,13 @@ use Rattle.shelf_holdings.specs.Check.{checked_shelf}
 use Rattle.shelf_holdings.specs.Append.{room_for, appended, Adds}
 use Rattle.shelf_holdings.proofs.Appends.{adds}
 use Rattle.shelf_law.specs.Holdings.{Has, numbered, EveryHolding, NoHolding, Lowest}
-use Rattle.shelf_law.specs.Scratch.{Scratch, Lists, HeldBy, Enough}
+use Rattle.shelf_law.specs.Scratch.{Scratch, HeldBy, Enough}
 use Rattle.shelf_law.specs.Placing.{Placing, short_scratch, double, full, held}
-use Rattle.shelf_law.specs.Calls.{Request, Filing, Joining, Readable, joined_at, Does, unreadable, unsound, no_first, no_second, too_large, files, joins}
+use Rattle.shelf_law.specs.Calls.{Request, Readable, joined_at, Does, unreadable, unsound, no_first, no_second, too_large, files, joins}
 use Rattle.shelf_law.specs.Comparing as comparing
 use Rattle.shelf_law.specs.Comparing.{Compared, Compares, Told, ToldApart}
 use Rattle.shelf_law.specs.History.{Call, call_of, Reached, opening, calling}
-use Rattle.shelf_law.specs.Law.{FilterOf, ListsFor, ScratchFor, Right, Represented, Answered, Kept, Law, KeepsLaw}
+use Rattle.shelf_law.specs.Law.{FilterOf, ScratchFor, Right, Represented, Kept, Law, KeepsLaw}
 use Rattle.shelf_law.proofs.Equivalences.{equivalent_refl, equivalent_sym, equivalent_trans}
 use Rattle.shelf_law.proofs.Readable.{readable_fits, readable_sound, opened_readable, appended_readable}
 use Rattle.shelf_law.proofs.Placings.{enough_long}

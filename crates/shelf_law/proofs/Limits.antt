@@ -1,5 +1,5 @@
 -- A sound table is within the limits.
-use Rattle.std.proofs.Common.{◌≡◌, ℕ, zero, suc, ◌≤◌, List, [], ◌∷◌, Some, refl}
+use Rattle.std.proofs.Common.{◌≡◌, ℕ, suc, ◌≤◌, List, [], ◌∷◌, Some, refl}
 use Rattle.std.specs.List.{slice_get, AllByRecursion}
 use Rattle.alphabet.specs.Model.{Model}
 use Rattle.table.specs.declared.entries.State.{State}

@@ -1,12 +1,11 @@
 -- A sound filter put on a shelf has one answer, and leaves one memory.
-use Rattle.std.proofs.Common.{◌≡◌, ℕ, ◌+◌, ◌<◌, true, false, ◌⊎◌, Ok, Err, Result, sym, refl, ap, ◌∙◌, inl, inr, arith}
+use Rattle.std.proofs.Common.{◌≡◌, ℕ, ◌+◌, ◌<◌, ◌⊎◌, Err, Result, sym, refl, ap, ◌∙◌, inl, inr, arith}
 use Rattle.alphabet.specs.Model.{Model}
 use Rattle.table.specs.Table.{Table}
 use Rattle.filter.specs.Meaning.{Equivalent}
 use Rattle.answers.specs.declared.fault.Fault.{Fault}
-use Rattle.answers.specs.declared.fault.Fault.TheVariants.{ShortScratch, Double, Full}
+use Rattle.answers.specs.declared.fault.Fault.TheVariants.{ShortScratch, Double}
 use Rattle.shelf_holdings.specs.Memory.{Memory}
-use Rattle.shelf_holdings.specs.Append.{room_for, appended}
 use Rattle.shelf_law.specs.Holdings.{EveryHolding, NoHolding, Lowest}
 use Rattle.shelf_law.specs.Scratch.{Scratch, Enough, Short}
 use Rattle.shelf_law.specs.Placing.{Placing, short_scratch, double, full, held}

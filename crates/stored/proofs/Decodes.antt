@@ -1,5 +1,5 @@
 -- One turn of decoding, and what opening a file tells of its meaning.
-use Rattle.std.proofs.Common.{◌≡◌, ℕ, ◌+◌, ◌<◌, ◌≤◌, true, cond, List, [], ◌∷◌, length, get_or, take, is_ok, Some, Ok, Err, Result, sym, refl, ap, ◌∙◌, arith}
+use Rattle.std.proofs.Common.{◌≡◌, ℕ, ◌+◌, ◌<◌, ◌≤◌, true, List, length, get_or, take, Some, Ok, Err, Result, sym, refl, ap, ◌∙◌, arith}
 use Rattle.std.proofs.lemmas.List.{length-take-le}
 use Rattle.table.specs.Table.{Table}
 use Rattle.shelf_holdings.specs.declared.memory.Entry.{Entry}
@@ -9,13 +9,13 @@ use Rattle.shelf_holdings.specs.Append.{appended}
 use Rattle.codec_laws.specs.Code.{Code, Exact, Free}
 use Rattle.codec_laws.specs.Numbers.{at}
 use Rattle.stored_laws.specs.declared.StoredFault.{StoredFault}
-use Rattle.stored_laws.specs.Format.{counts_of, then, contents, bodies_at, table_in, checked_file, parsed}
+use Rattle.stored_laws.specs.Format.{counts_of, then, contents, bodies_at, checked_file, parsed}
 use Rattle.stored_laws.specs.Shelved.{head_of, room_of, tables_of, shelved}
 use Rattle.stored_laws.proofs.Again.{passes, tables_number}
 use Rattle.stored_laws.proofs.Rounds.{shelved_tables, shelved_fits}
 use Rattle.stored_laws.proofs.Shelves.{Room, room_is, same_head, total_states, total_rules, total_outputs, tables_at, room_ledger, room_states, room_rules, room_outputs, shelved_next}
 use Rattle.reader.specs.declared.body.Body.{Body}
-use Rattle.reader.specs.Parts.{whole, counts_at_lem, body_at, parts_of}
+use Rattle.reader.specs.Parts.{whole, parts_of}
 use Rattle.reader.proofs.Stands.{contents_number, is_whole}
 use Rattle.stored.specs.Bodies.{body_table, tables_of_file}
 use Rattle.stored.proofs.Handed.{parts, there, body_counts, table_there}

@@ -1,8 +1,8 @@
 -- The bytes of a shelf, as they are written piece by piece.
-use Rattle.std.proofs.Common.{◌≡◌, ℕ, zero, suc, ◌+◌, ◌*◌, ◌<◌, ◌≤◌, Bool, true, false, cond, leb, List, [], ◌∷◌, ◌++◌, map, length, get_or, take, set, Ok, Err, sum_by, Result, sym, refl, ap, ◌∙◌, arith}
-use Rattle.std.specs.List.{AllByRecursion, flat_map}
+use Rattle.std.proofs.Common.{◌≡◌, ℕ, zero, suc, ◌+◌, ◌*◌, ◌<◌, ◌≤◌, true, false, cond, leb, List, [], ◌∷◌, ◌++◌, map, length, get_or, take, set, Ok, Err, sum_by, Result, sym, refl, ap, ◌∙◌, arith}
+use Rattle.std.specs.List.{flat_map}
 use Rattle.std.proofs.ByRecursion.{All-weaker}
-use Rattle.std.proofs.lemmas.List.{append_assoc, flat_map_more, length-append, length-map, length-take-le, take_all, take_at, take_more}
+use Rattle.std.proofs.lemmas.List.{append_assoc, length-append, length-map, length-take-le, take_all, take_at, take_more}
 use Rattle.std.proofs.lemmas.Bool.Decides.{nat_tests}
 use Rattle.alphabet.specs.Model.{Model}
 use Rattle.table.specs.Results.{map_err}
@@ -10,7 +10,7 @@ use Rattle.table.specs.Table.{Table}
 use Rattle.shelf_holdings.specs.declared.memory.Entry.{Entry}
 use Rattle.shelf_holdings.specs.declared.memory.Head.{Head}
 use Rattle.answers.specs.declared.fault.Fault.{Fault}
-use Rattle.shelf_holdings.specs.Memory.{Memory, in_use, states_of_lem, rules_of, outputs_of_lem, fits, holding}
+use Rattle.shelf_holdings.specs.Memory.{Memory, in_use, fits, holding}
 use Rattle.shelf_holdings.specs.Check.{checked_shelf}
 use Rattle.shelf_holdings.specs.Append.{over}
 use Rattle.shelf_holdings.proofs.Parts.{fitting}

@@ -1,13 +1,12 @@
 -- What the bodies that a reader hands out say.
-use Rattle.std.proofs.Common.{◌≡◌, ℕ, zero, suc, ◌+◌, ◌*◌, ◌<◌, ◌≤◌, Bool, true, cond, ◌&&◌, ltb, List, [], ◌∷◌, length, take, drop, Some, None, Option, sym, refl, ap, ◌∙◌, suc-mul, arith, length-drop}
+use Rattle.std.proofs.Common.{◌≡◌, ℕ, zero, suc, ◌+◌, ◌*◌, ◌<◌, ◌≤◌, Bool, true, cond, ◌&&◌, ltb, List, ◌∷◌, length, take, drop, Some, None, sym, refl, ap, ◌∙◌, suc-mul, arith, length-drop}
 use Rattle.std.proofs.lemmas.List.{drop-take, length-take-le, take-take}
 use Rattle.std.proofs.lemmas.Bool.Decides.{nat_tests}
-use Rattle.table.specs.Table.{Table}
 use Rattle.shelf_holdings.specs.declared.memory.Entry.{Entry}
 use Rattle.reader.specs.declared.body.Body.{Body}
-use Rattle.reader.specs.Opened.{part_of, shown}
-use Rattle.reader.specs.Parts.{Part, Parts, whole, counts_at_lem, body_at, parts_at, parts_of}
-use Rattle.reader.proofs.Stands.{Whole, whole_is, body_inside}
+use Rattle.reader.specs.Opened.{part_of}
+use Rattle.reader.specs.Parts.{Parts, whole, counts_at_lem, body_at, parts_at, parts_of}
+use Rattle.reader.proofs.Stands.{whole_is, body_inside}
 use Rattle.codec_laws.specs.Code.{Code}
 use Rattle.codec_laws.specs.Numbers.{at}
 use Rattle.codec_laws.specs.Entries.{state_code, rule_code}

@@ -1,21 +1,20 @@
 -- A file read and written again has the same bytes.
-use Rattle.std.proofs.Common.{◌≡◌, ℕ, suc, ◌+◌, ◌-◌, ◌*◌, ◌<◌, ◌≤◌, Bool, true, eqb, leb, List, [], ◌∷◌, ◌++◌, map, length, get_or, take, drop, Some, None, Ok, Err, sum_by, Option, Result, sym, refl, ap, ◌∙◌, arith, length-drop, take-add}
+use Rattle.std.proofs.Common.{◌≡◌, ℕ, suc, ◌+◌, ◌-◌, ◌*◌, ◌<◌, ◌≤◌, Bool, true, eqb, leb, List, [], ◌∷◌, ◌++◌, map, length, take, drop, Some, None, Ok, sum_by, Option, Result, sym, refl, ap, ◌∙◌, arith, length-drop, take-add}
 use Rattle.std.specs.List.{flat_map}
 use Rattle.std.proofs.ByRecursion.{All-drop}
-use Rattle.std.proofs.lemmas.List.{append_assoc, drop_all, drop-drop, drop_more, take-append-drop}
+use Rattle.std.proofs.lemmas.List.{drop_all, drop-drop, drop_more, take-append-drop}
 use Rattle.std.proofs.lemmas.List.Sums.{sum_by-cons}
 use Rattle.std.proofs.lemmas.Bool.Decides.{nat_tests}
-use Rattle.table.specs.Table.{Table}
 use Rattle.shelf_holdings.specs.declared.memory.Entry.{Entry}
 use Rattle.codec_laws.specs.Code.{Code, Bytes, Exact, Free}
 use Rattle.codec_laws.specs.Numbers.{at}
 use Rattle.codec_laws.specs.Entries.{entry_code, state_code, rule_code}
-use Rattle.codec_laws.specs.Lists.{or_else, image_all, records, wrong_from}
+use Rattle.codec_laws.specs.Lists.{image_all, wrong_from}
 use Rattle.codec_laws.proofs.Laws.{cong3, entry_exact, state_exact, rule_exact}
 use Rattle.codec_laws.proofs.Lists.{free_all, or_none, records_again, records_length}
 use Rattle.stored_laws.specs.declared.StoredFault.{StoredFault}
 use Rattle.stored_laws.specs.declared.StoredFault.TheVariants.{CutShort, OtherAlphabet, TooManyHoldings, LeftOver}
-use Rattle.stored_laws.specs.Format.{counts_of, to_rules, to_outputs_lem, body_size, then, unless, none_wrong, contents, bodies_at, file_size, wrong_in, checked_file, body_of, bytes_of, table_in, tables_in, parsed}
+use Rattle.stored_laws.specs.Format.{counts_of, to_rules, to_outputs_lem, body_size, then, unless, none_wrong, contents, bodies_at, file_size, wrong_in, checked_file, body_of, bytes_of, table_in, tables_in}
 
 -- two pieces of a list, one behind the other
 pieces : (file : List ℕ) (p a b : ℕ) → take a (drop p file) ++ take b (drop (p + a) file) ≡ take (a + b) (drop p file)

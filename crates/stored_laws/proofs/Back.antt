@@ -1,15 +1,13 @@
 -- Tables written and read back are the same tables.
-use Rattle.std.proofs.Common.{◌≡◌, ℕ, ◌+◌, ◌*◌, ◌≤◌, Bool, true, eqb, leb, List, [], ◌∷◌, ◌++◌, map, length, drop, Some, None, Ok, Err, sum_by, Option, Result, sym, refl, ap, ◌∙◌, arith}
+use Rattle.std.proofs.Common.{◌≡◌, ℕ, ◌+◌, ◌*◌, ◌≤◌, Bool, true, eqb, leb, List, [], ◌∷◌, ◌++◌, map, length, drop, None, Ok, sum_by, Result, sym, refl, ap, ◌∙◌, arith}
 use Rattle.std.specs.List.{AllByRecursion, flat_map}
-use Rattle.std.proofs.lemmas.List.{append_assoc, append-nil, drop_at, drop-drop, length-append, length-map}
+use Rattle.std.proofs.lemmas.List.{append_assoc, drop_at, drop-drop, length-append, length-map}
 use Rattle.std.proofs.lemmas.List.Sums.{sum_by-cons}
 use Rattle.std.proofs.lemmas.Bool.Decides.{nat_tests}
 use Rattle.table.specs.declared.entries.State.{State}
 use Rattle.table.specs.declared.entries.Rule.{Rule}
 use Rattle.table.specs.Table.{Table}
-use Rattle.shelf_holdings.specs.declared.memory.Entry.{Entry}
 use Rattle.codec_laws.specs.Code.{Code, Exact, Free}
-use Rattle.codec_laws.specs.Numbers.{at}
 use Rattle.codec_laws.specs.Entries.{entry_code, state_code, rule_code}
 use Rattle.codec_laws.specs.Lists.{or_else, image_all, records, wrong_from, FitAll}
 use Rattle.codec_laws.proofs.Laws.{entry_exact, state_exact, rule_exact}

@@ -1,6 +1,6 @@
 -- Round trips: a sound shelf written and read, a file read and written, tables put on a shelf and found there.
-use Rattle.std.proofs.Common.{◌≡◌, ℕ, zero, suc, ◌+◌, ◌*◌, ◌<◌, ◌≤◌, Bool, true, ◌&&◌, eqb, ltb, leb, List, [], ◌∷◌, ◌++◌, map, length, get_or, take, drop, Ok, Err, sum_by, Result, sym, refl, ap, ◌∙◌, arith}
-use Rattle.std.specs.List.{AllByRecursion, flat_map}
+use Rattle.std.proofs.Common.{◌≡◌, ℕ, zero, suc, ◌+◌, ◌<◌, ◌≤◌, true, List, [], ◌∷◌, ◌++◌, map, length, get_or, take, drop, Ok, Err, sum_by, Result, sym, refl, ap, ◌∙◌, arith}
+use Rattle.std.specs.List.{flat_map}
 use Rattle.std.proofs.ByRecursion.{All-weaker}
 use Rattle.std.proofs.lemmas.List.{append_assoc, drop_at, length-append, length-map, length-take-le, take_at}
 use Rattle.std.proofs.lemmas.List.Sums.{sum_by-cons}
@@ -12,7 +12,6 @@ use Rattle.table.specs.Table.{Table, stretch}
 use Rattle.shelf_holdings.specs.declared.memory.Entry.{Entry}
 use Rattle.shelf_holdings.specs.Memory.{Memory, in_use, states_of_lem, rules_of, outputs_of_lem, fits, holding}
 use Rattle.shelf_holdings.specs.Check.{checked_shelf}
-use Rattle.shelf_holdings.specs.Append.{over}
 use Rattle.shelf_holdings.proofs.Parts.{fitting}
 use Rattle.codec_laws.specs.Code.{Code, Bytes, Exact, Free}
 use Rattle.codec_laws.specs.Entries.{entry_code, state_code, rule_code}

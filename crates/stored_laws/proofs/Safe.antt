@@ -1,5 +1,5 @@
 -- The tables of a sound shelf: small, made of sound guards and terms, and with the counts of the ledger.
-use Rattle.std.proofs.Common.{◌≡◌, ℕ, zero, suc, ◌+◌, ◌-◌, ◌*◌, ◌<◌, ◌≤◌, Bool, true, cond, ◌&&◌, eqb, ltb, leb, List, [], ◌∷◌, ◌++◌, map, length, take, drop, is_some, Some, Ok, Err, sum_by, Result, sym, refl, ap, ◌∙◌, subst, suc-mul, arith, length-drop, eqb-true}
+use Rattle.std.proofs.Common.{◌≡◌, ℕ, suc, ◌+◌, ◌*◌, ◌<◌, ◌≤◌, Bool, true, ◌&&◌, eqb, ltb, leb, List, [], ◌∷◌, map, length, take, drop, is_some, Some, Ok, Err, sum_by, Result, sym, refl, ap, ◌∙◌, subst, suc-mul, arith, length-drop, eqb-true}
 use Rattle.std.specs.List.{slice_get, AllByRecursion}
 use Rattle.std.proofs.ByRecursion.{All-append}
 use Rattle.std.proofs.lemmas.List.{length-take-le, nil_from_length, take-append-drop}
@@ -15,7 +15,7 @@ use Rattle.table.specs.declared.fault.TableFault.{TableFault}
 use Rattle.table.specs.declared.fault.TableFault.TheVariants.{MissingState, UnsoundGuard, LongOutput, OutputCount, NotConstant, UnsoundOutput}
 use Rattle.table.specs.Results.{map_err}
 use Rattle.table.specs.Table.{Table, stretch, final_total_of, rule_total_of, all_rule_outputs}
-use Rattle.table.specs.Check.{Checked, next, unless, each, limits_of, good_state, check_state_lem, check_rule_lem, check_final_lem, check_output_lem, check_rule_outputs_lem, check_overlaps_lem, checked}
+use Rattle.table.specs.Check.{Checked, next, unless, each, limits_of, check_state_lem, check_rule_lem, check_final_lem, check_output_lem, check_rule_outputs_lem, check_overlaps_lem, checked}
 use Rattle.filter.proofs.Finals.{stretch_is}
 use Rattle.filter.proofs.Finds.{total_upto}
 use Rattle.shelf_holdings.specs.declared.memory.Entry.{Entry}

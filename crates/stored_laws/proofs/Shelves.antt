@@ -1,5 +1,5 @@
 -- Tables put on a shelf one after another.
-use Rattle.std.proofs.Common.{◌≡◌, ℕ, zero, suc, ◌+◌, ◌<◌, ◌≤◌, true, List, [], ◌∷◌, ◌++◌, map, length, get_or, take, set, Ok, sum_by, sym, refl, ap, ◌∙◌, arith}
+use Rattle.std.proofs.Common.{◌≡◌, ℕ, zero, suc, ◌+◌, ◌<◌, ◌≤◌, List, [], ◌∷◌, ◌++◌, map, length, get_or, take, set, Ok, sum_by, sym, refl, ap, ◌∙◌, arith}
 use Rattle.std.specs.List.{flat_map}
 use Rattle.std.proofs.lemmas.List.{flat_map_more, length-append, length-map, length_push, length-take-le, map_push, take_more}
 use Rattle.std.proofs.lemmas.List.Sums.{sum_by-cons}
@@ -12,10 +12,9 @@ use Rattle.shelf_holdings.specs.declared.memory.Head.{Head}
 use Rattle.shelf_holdings.specs.Memory.{Memory, states_of_lem, rules_of, outputs_of_lem, opened}
 use Rattle.shelf_holdings.specs.Append.{over, appended}
 use Rattle.codec_laws.specs.Code.{Code}
-use Rattle.codec_laws.proofs.Lists.{records_length}
 use Rattle.codec_laws.proofs.Overs.{length_over, over_more, over_none, set_over}
 use Rattle.stored_laws.specs.Format.{counts_of, body_size, table_in, tables_in}
-use Rattle.stored_laws.specs.Shelved.{all_states, all_rules, all_outputs, head_of, room_for, room_of, shelved}
+use Rattle.stored_laws.specs.Shelved.{all_states, all_rules, all_outputs, head_of, room_for, shelved}
 use Rattle.stored_laws.proofs.Again.{counts_again}
 
 pub same_head : (a b : Head) → a.holdings ≡ b.holdings → a.states ≡ b.states → a.rules ≡ b.rules → a.outputs ≡ b.outputs → a ≡ b

@@ -1,5 +1,5 @@
 -- Tables put on a shelf from its front on, and the tables that a shelf holds.
-use Rattle.std.specs.Prelude.{◌≡◌, ℕ, ◌+◌, Bool, true, cond, ◌&&◌, List, [], ◌∷◌, map, length, is_ok, Ok, Err, Result, nat_le}
+use Rattle.std.specs.Prelude.{ℕ, ◌+◌, cond, List, [], ◌∷◌, map, length, is_ok, Ok, Err, Result, nat_le}
 use Rattle.std.specs.List.{flat_map}
 use Rattle.alphabet.specs.Model.{Model}
 use Rattle.table.specs.declared.entries.State.{State}

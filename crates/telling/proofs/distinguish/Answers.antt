@@ -1,4 +1,4 @@
-use Rattle.std.proofs.Common.{◌≡◌, ◌<◌, ◌≤◌, length, Some, None, Err, sym, ap, ◌∙◌, subst, arith}
+use Rattle.std.proofs.Common.{◌≡◌, ◌≤◌, length, Err, sym, ap, ◌∙◌, subst, arith}
 use Rattle.queue.specs.Held.{entries}
 use Rattle.table.specs.Table.{table_of}
 use Rattle.steps.specs.Places.{steps_needed_lem}
@@ -6,7 +6,7 @@ use Rattle.steps.specs.Steps.{text}
 use Rattle.answers.specs.declared.fault.Fault.TheVariants.{TooShort}
 use Rattle.equivalence.specs.Answers.{steps_for, text_in, Early}
 use Rattle.equivalence.specs.Decided.{Decided}
-use Rattle.shelf_law.specs.Scratch.{scratch_of, Enough}
+use Rattle.shelf_law.specs.Scratch.{scratch_of}
 use Rattle.shelf_law.specs.Comparing.{Compared, short_scratch, short_witness, equivalent}
 use Rattle.telling.proofs.Witnesses.{long_enough, never_short, told_text}
 use Rattle.telling.proofs.distinguish.Goals as goal

@@ -1,4 +1,4 @@
-use Rattle.std.proofs.Common.{◌≡◌, ◌+◌, ◌-◌, ◌*◌, ◌≤◌, length, sym, refl, ap, ◌∙◌, arith, rules}
+use Rattle.std.proofs.Common.{◌≡◌, ◌+◌, ◌-◌, ◌≤◌, length, sym, arith, rules}
 use Rattle.codec_laws.proofs.Overs.{over_none}
 use Rattle.codec.proofs.Turns.{ends, next_at, fill_more}
 use Rattle.codec.proofs.runs.fill.Goals as goal

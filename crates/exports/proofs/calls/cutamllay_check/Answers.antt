@@ -7,4 +7,4 @@ use Rattle.exports.proofs.calls.cutamllay_check.Goals as goal
 pub returns : goal.returns
 returns c =
     let is = c.draft-draft.ensures ∙ c.in-Ok.ensures in
-    inr (c.check-answer.ensures ∙ ap check_answer_lem (c.check.ensures.first ∙ ap (checked (ranges 256)) is))
+    inr (c.check_answer.ensures ∙ ap check_answer_lem (c.check.ensures.first ∙ ap (checked (ranges 256)) is))

@@ -6,22 +6,22 @@ use Rattle.comparing.specs.Comparisons.{Compares}
 use Rattle.exports.specs.Flats.{flat_table}
 use Rattle.exports.proofs.calls.cutamllay_compare.Goals as goal
 
-pub returns-in-default : goal.returns-in-default
-returns-in-default c = record { result = Err NoMemory; is = c.answer-of.ensures; witness = refl; compares = tt }
+pub returns-in_default : goal.returns-in_default
+returns-in_default c = record { result = Err NoMemory; is = c.answer_of.ensures; witness = refl; compares = tt }
 
-pub returns-in-default-read : goal.returns-in-default-read
-returns-in-default-read c = record { result = Err NoMemory; is = c.answer-of-in-default-read.ensures; witness = refl; compares = tt }
+pub returns-in_default-read : goal.returns-in_default-read
+returns-in_default-read c = record { result = Err NoMemory; is = c.answer_of-in_default-read.ensures; witness = refl; compares = tt }
 
 pub returns : goal.returns
 returns c =
     let one = c.draft-left.ensures ∙ c.in-Ok.ensures in
     let other = c.draft-right.ensures ∙ c.in-Ok-read.ensures in
     let H = table_of c.draft-right.result in
-    let F = flat_table c.args.first-states.now c.args.first-rules.now c.args.first-outputs.now in
-    let r = c.compare-drafts.result in
+    let F = flat_table c.args.first_states.now c.args.first_rules.now c.args.first_outputs.now in
+    let r = c.compare_drafts.result in
     record {
       result = r;
-      is = c.compare-answer.ensures.answer;
-      witness = c.compare-answer.ensures.witness;
-      compares = subst (λ X. Compares (ranges 256) F X r) other (subst (λ X. Compares (ranges 256) X H r) one c.compare-drafts.ensures);
+      is = c.compare_answer.ensures.answer;
+      witness = c.compare_answer.ensures.witness;
+      compares = subst (λ X. Compares (ranges 256) F X r) other (subst (λ X. Compares (ranges 256) X H r) one c.compare_drafts.ensures);
     }

@@ -14,7 +14,7 @@ returns c =
     let after = c.transduce.new.out in
     inr (record {
       result = c.transduce.result;
-      is = c.transduce-answer.ensures;
+      is = c.transduce_answer.ensures;
       defined = c.transduce.ensures.answer ∙ ap (λ F. after_check (checked (ranges 256) F) (answer_for (machine_of (ranges 256) F) text (length before))) is;
       means = subst (λ F. Transduces (ranges 256) F text before after c.transduce.result) is c.transduce.ensures.means;
     })

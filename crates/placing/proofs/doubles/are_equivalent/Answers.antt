@@ -1,4 +1,4 @@
-use Rattle.std.proofs.Common.{◌≡◌, ℕ, Bool, true, false, List, Some, None, refl, arith}
+use Rattle.std.proofs.Common.{Some, None, refl, arith}
 use Rattle.queue.specs.Held.{entries}
 use Rattle.table.specs.Table.{table_of}
 use Rattle.steps.specs.Steps.{text}

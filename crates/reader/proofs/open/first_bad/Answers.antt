@@ -1,8 +1,6 @@
-use Rattle.std.proofs.Common.{◌≡◌, ℕ, ◌+◌, ◌*◌, ◌<◌, ◌≤◌, length, drop, Some, None, Option, sym, ap, ◌∙◌, arith, rules}
-use Rattle.codec_laws.specs.Numbers.{at}
+use Rattle.std.proofs.Common.{◌≡◌, ℕ, ◌+◌, ◌*◌, ◌≤◌, length, drop, Some, None, Option, sym, ap, ◌∙◌, arith, rules}
 use Rattle.codec_laws.specs.Lists.{wrong_from}
 use Rattle.stored_laws.specs.Format.{to_outputs_lem, body_size, wrong_in, contents}
-use Rattle.reader.specs.Parts.{counts_at_lem}
 use Rattle.reader.proofs.Stands.{whole_is, body_inside, body_next, wrong_turn, wrong_end}
 use Rattle.reader.proofs.open.first_bad.Goals as goal
 

@@ -1,9 +1,8 @@
-use Rattle.std.proofs.Common.{◌≡◌, ◌≤◌, sym, ap, ◌∙◌, arith}
+use Rattle.std.proofs.Common.{◌≤◌, sym, ap, ◌∙◌, arith}
 use Rattle.std.proofs.lemmas.List.{take_all}
 use Rattle.shelf_holdings.specs.Memory.{memory_of}
 use Rattle.codec_laws.specs.Numbers.{at}
 use Rattle.stored_laws.specs.Shelved.{shelved}
-use Rattle.stored_laws.proofs.Shelves.{shelved_none}
 use Rattle.reader.specs.Opened.{shown}
 use Rattle.stored.specs.Bodies.{tables_of_file}
 use Rattle.stored.proofs.Handed.{none_left, there, full}

@@ -1,4 +1,4 @@
-use Rattle.std.proofs.Common.{◌≡◌, ◌+◌, set, sym, refl, ap, ◌∙◌}
+use Rattle.std.proofs.Common.{◌+◌, set, sym, refl, ap}
 use Rattle.shelf_holdings.specs.declared.memory.Entry.{Entry}
 use Rattle.shelf_holdings.specs.Memory.{memory_of}
 use Rattle.shelf_holdings.specs.Append.{appended}

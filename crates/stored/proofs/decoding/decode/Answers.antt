@@ -1,8 +1,8 @@
-use Rattle.std.proofs.Common.{◌≡◌, ◌<◌, cond, is_ok, Ok, Err, Result, sym, refl, ap, ◌∙◌, arith}
+use Rattle.std.proofs.Common.{◌<◌, cond, is_ok, Err, Result, sym, refl, ap, ◌∙◌, arith}
 use Rattle.std.proofs.lemmas.Result.{err_from_is_err_and}
-use Rattle.shelf_holdings.specs.Memory.{Memory, memory_of}
+use Rattle.shelf_holdings.specs.Memory.{memory_of}
 use Rattle.stored_laws.specs.declared.StoredFault.{StoredFault}
-use Rattle.stored_laws.specs.Shelved.{room_for, room_of, shelved, decoded, decoded_memory}
+use Rattle.stored_laws.specs.Shelved.{room_for, shelved, decoded, decoded_memory}
 use Rattle.stored.specs.Bodies.{tables_of_file}
 use Rattle.stored.proofs.Decodes.{read_whole, read_parsed, head_is, decoded_tables, decoded_fits}
 use Rattle.stored_laws.proofs.Rounds.{file_again}

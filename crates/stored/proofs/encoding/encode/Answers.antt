@@ -1,8 +1,7 @@
-use Rattle.std.proofs.Common.{◌≡◌, ℕ, ◌+◌, ◌-◌, ◌*◌, ◌≤◌, List, ◌∷◌, length, take, Ok, Err, Result, sym, refl, ap, ◌∙◌, arith}
+use Rattle.std.proofs.Common.{◌≡◌, ℕ, ◌+◌, ◌-◌, ◌*◌, ◌≤◌, List, ◌∷◌, length, take, Ok, Result, sym, refl, ap, ◌∙◌, arith}
 use Rattle.std.specs.List.{flat_map}
-use Rattle.std.proofs.lemmas.List.{length-take-le, take_all}
+use Rattle.std.proofs.lemmas.List.{length-take-le}
 use Rattle.table.specs.Table.{table_of}
-use Rattle.shelf_holdings.specs.declared.memory.Entry.{Entry}
 use Rattle.shelf_holdings.specs.Memory.{memory_of, in_use}
 use Rattle.shelf_holdings.specs.Check.{checked_shelf}
 use Rattle.shelf_holdings.specs.Append.{over}

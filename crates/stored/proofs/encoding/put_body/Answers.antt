@@ -1,4 +1,4 @@
-use Rattle.std.proofs.Common.{◌≡◌, length, sym, ap, ◌∙◌, arith}
+use Rattle.std.proofs.Common.{ap, ◌∙◌, arith}
 use Rattle.table.specs.Table.{table_of}
 use Rattle.shelf_holdings.specs.Append.{over}
 use Rattle.codec_laws.specs.Entries.{state_code, rule_code}

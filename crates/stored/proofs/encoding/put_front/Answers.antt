@@ -1,4 +1,4 @@
-use Rattle.std.proofs.Common.{◌≡◌, length, ◌∙◌, arith}
+use Rattle.std.proofs.Common.{length, ◌∙◌, arith}
 use Rattle.stored.proofs.Encodes.{front_over}
 use Rattle.stored.proofs.encoding.put_front.Goals as goal
 

@@ -1,4 +1,4 @@
-use Rattle.std.proofs.Common.{◌≡◌, ◌+◌, ◌*◌, ◌<◌, ◌≤◌, length, sym, ap, ◌∙◌, arith, rules}
+use Rattle.std.proofs.Common.{◌+◌, ◌*◌, ◌≤◌, length, sym, ap, arith, rules}
 use Rattle.stored_laws.specs.Format.{body_size}
 use Rattle.reader.proofs.Stands.{whole_is, body_inside}
 use Rattle.reader.proofs.body.Reader.body.Goals as goal

@@ -1,4 +1,4 @@
-use Rattle.std.proofs.Common.{◌≡◌, ◌<◌, ◌≤◌, length, Some, None, Ok, Err, sym, ap, ◌∙◌, arith, rules}
+use Rattle.std.proofs.Common.{◌≡◌, ◌≤◌, length, Ok, Err, sym, ap, ◌∙◌, arith, rules}
 use Rattle.codec_laws.specs.Numbers.{at}
 use Rattle.stored_laws.specs.declared.StoredFault.TheVariants.{LeftOver}
 use Rattle.stored_laws.specs.Format.{then, none_wrong, bodies_at, file_size}

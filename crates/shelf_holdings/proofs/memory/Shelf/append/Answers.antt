@@ -1,7 +1,7 @@
-use Rattle.std.proofs.Common.{◌≡◌, sym, ◌∙◌, subst, rules}
+use Rattle.std.proofs.Common.{◌≡◌, sym, subst, rules}
 use Rattle.table.specs.Table.{table_of}
 use Rattle.shelf_holdings.specs.Memory.{memory_of}
-use Rattle.shelf_holdings.specs.Append.{appended, room_for, Adds}
+use Rattle.shelf_holdings.specs.Append.{appended, Adds}
 use Rattle.shelf_holdings.proofs.Appends.{adds}
 use Rattle.shelf_holdings.proofs.memory.Shelf.append.Goals as goal
 

@@ -1,5 +1,4 @@
-use Rattle.std.proofs.Common.{◌≡◌, ◌+◌, ◌≤◌, length, take, ◌∙◌, arith, rules}
-use Rattle.table.specs.Table.{Table}
+use Rattle.std.proofs.Common.{◌+◌, ◌≤◌, length, arith, rules}
 use Rattle.shelf_holdings.specs.declared.memory.Entry.{Entry}
 use Rattle.shelf_holdings.specs.Memory.{memory_of}
 use Rattle.shelf_holdings.proofs.Parts.{entry, fitting, part_end, part_is}
