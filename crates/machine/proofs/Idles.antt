@@ -1,6 +1,6 @@
 -- Symbols that need not be tried at a pair of sides: they lead nowhere, or smaller symbols do for them.
 use Rattle.std.proofs.Common.{◌≡◌, ℕ, ◌<◌, ◌⊎◌, List, [], ◌∷◌, ◌++◌, Some, None, Option, ap, ◌∙◌, append_assoc, arith}
-use Rattle.std.specs.List.{AllByRecursion as All}
+use Rattle.std.specs.List.{AllByRecursion}
 use Rattle.machine.specs.Machine.{Machine, run}
 use Rattle.machine.specs.Sides.{output_of, onward, Arrives}
 use Rattle.machine.specs.Covered.{Idle}
@@ -30,7 +30,7 @@ idle_half a b l r c s less e f dead u h =
 
 -- the symbol takes the same moves as two smaller ones, and writes the values of the same terms
 pub idle_class : {T : Type 0} {size : ℕ} {Good : T → Type 0} {value : T → ℕ → Option ℕ} {constant : ℕ → T}
-    → TermLaws size Good value constant → (a b : Machine) {p q p' q' : ℕ} {L M : List T} → All Good L → All Good M
+    → TermLaws size Good value constant → (a b : Machine) {p q p' q' : ℕ} {L M : List T} → AllByRecursion Good L → AllByRecursion Good M
     → (e f s : ℕ) → e < f → f < s
     → Uses value a p e p' L → Uses value b q e q' M → Uses value a p f p' L → Uses value b q f q' M
     → Uses value a p s p' L → Uses value b q s q' M → Idle a b (Some p) (Some q) s

@@ -1,6 +1,6 @@
 -- Words of terms with symbols among them: equal at two symbols, they are equal at every one.
 use Rattle.std.proofs.Common.{◌≡◌, ℕ, ◌⊎◌, List, [], ◌∷◌, ◌++◌, map, Some, Option, sym, refl, ◌∙◌, inl, inr, arith}
-use Rattle.std.specs.List.{AllByRecursion as All}
+use Rattle.std.specs.List.{AllByRecursion}
 use Rattle.std.proofs.ByRecursion.{All-append}
 use Rattle.machine.specs.Terms.{values, TermLaws}
 
@@ -55,17 +55,17 @@ whole_reads value x L v s w e =
     (reads_append value (map inl L) (map inr v) s w v (reads_values value L s w e) (reads_symbols value v s))
 
 -- symbols are fit
-fit_symbols : {T : Type 0} (Good : T → Type 0) (x : List ℕ) → All (Fit Good) (map inr x)
+fit_symbols : {T : Type 0} (Good : T → Type 0) (x : List ℕ) → AllByRecursion (Fit Good) (map inr x)
 fit_symbols Good [] = tt
 fit_symbols Good (c ∷ x) = (tt, fit_symbols Good x)
 
 -- good terms are fit
-fit_terms : {T : Type 0} (Good : T → Type 0) (L : List T) → All Good L → All (Fit Good) (map inl L)
+fit_terms : {T : Type 0} (Good : T → Type 0) (L : List T) → AllByRecursion Good L → AllByRecursion (Fit Good) (map inl L)
 fit_terms Good [] g = tt
 fit_terms Good (t ∷ L) g = (g.0, fit_terms Good L g.1)
 
 -- a whole output of good terms is fit
-whole_fit : {T : Type 0} (Good : T → Type 0) (x : List ℕ) (L : List T) (v : List ℕ) → All Good L → All (Fit Good) (whole x L v)
+whole_fit : {T : Type 0} (Good : T → Type 0) (x : List ℕ) (L : List T) (v : List ℕ) → AllByRecursion Good L → AllByRecursion (Fit Good) (whole x L v)
 whole_fit Good x L v g =
     All-append (Fit Good) (map inr x) (map inl L ++ map inr v) (fit_symbols Good x)
     (All-append (Fit Good) (map inl L) (map inr v) (fit_terms Good L g) (fit_symbols Good v))
@@ -95,7 +95,7 @@ module _ {T : Type 0} {size : ℕ} {Good : T → Type 0} {value : T → ℕ → 
   piece_twice (inr x) (inr y) g g' c d k k' h h' i i' j j' = grind arith
 
   -- two words that read alike at two symbols read alike wherever both can be read
-  reads_twice : (L M : List (T ⊎ ℕ)) → All (Fit Good) L → All (Fit Good) M → (x y z z' : List ℕ)
+  reads_twice : (L M : List (T ⊎ ℕ)) → AllByRecursion (Fit Good) L → AllByRecursion (Fit Good) M → (x y z z' : List ℕ)
       → Reads value L e x → Reads value M e x → Reads value L f y → Reads value M f y
       → Reads value L s z → Reads value M s z' → z ≡ z'
   reads_twice [] [] g g' x y [] [] h h' i i' j j' = refl
@@ -115,7 +115,7 @@ module _ {T : Type 0} {size : ℕ} {Good : T → Type 0} {value : T → ℕ → 
       cc
 
   -- outputs by terms that are equal at two symbols are equal at every one, whatever stands before and behind
-  pub outputs_twice : (L M : List T) → All Good L → All Good M → (x y x₁ y₁ x₂ y₂ x₃ y₃ : List ℕ)
+  pub outputs_twice : (L M : List T) → AllByRecursion Good L → AllByRecursion Good M → (x y x₁ y₁ x₂ y₂ x₃ y₃ : List ℕ)
       → values value L e ≡ Some x₁ → values value M e ≡ Some y₁ → values value L f ≡ Some x₂ → values value M f ≡ Some y₂
       → values value L s ≡ Some x₃ → values value M s ≡ Some y₃ → (v w : List ℕ)
       → x ++ (x₁ ++ v) ≡ y ++ (y₁ ++ w) → x ++ (x₂ ++ v) ≡ y ++ (y₂ ++ w) → x ++ (x₃ ++ v) ≡ y ++ (y₃ ++ w)

@@ -1,6 +1,6 @@
 -- What is proved of machines in general, as statements that contracts name.
 use Rattle.std.specs.Prelude.{◌≡◌, ℕ, ◌+◌, ◌<◌, ◌≤◌, Bool, true, ◌⊎◌, List, [], ◌∷◌, ◌++◌, length, get_or, Some, None, Option, ◌≢◌, slice_index_or}
-use Rattle.std.specs.List.{AllByRecursion as All}
+use Rattle.std.specs.List.{AllByRecursion}
 use Rattle.machine.specs.Machine.{Machine, and_then, transduced, Distinguishes}
 use Rattle.machine.specs.Shortlex.{Earlier}
 use Rattle.machine.specs.Sides.{Arrives, onward}
@@ -50,7 +50,7 @@ pub record SymbolsIdle (T : Type 0) : Type 0 where
   -- two smaller symbols take the same moves, and the values of the same words of terms are written
   pub class : (size : ℕ) (good : T → Bool) (value : T → ℕ → Option ℕ) (constant : ℕ → T)
       → TermLaws size (λ t. good t ≡ true) value constant → (a b : Machine) (p q p' q' : ℕ) (L M : List T)
-      → All (λ t. good t ≡ true) L → All (λ t. good t ≡ true) M → (e f s : ℕ) → e < f → f < s
+      → AllByRecursion (λ t. good t ≡ true) L → AllByRecursion (λ t. good t ≡ true) M → (e f s : ℕ) → e < f → f < s
       → Uses value a p e p' L → Uses value b q e q' M → Uses value a p f p' L → Uses value b q f q' M
       → Uses value a p s p' L → Uses value b q s q' M → Idle a b (Some p) (Some q) s
 

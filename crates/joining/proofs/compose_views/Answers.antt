@@ -1,4 +1,4 @@
-use Rattle.std.proofs.Common.{sym, ap, subst}
+use Rattle.std.proofs.Common.{sym, subst}
 use Rattle.table.specs.Sound.{Sound}
 use Rattle.shelf_holdings.specs.Memory.{memory_of}
 use Rattle.shelf_law.proofs.Readable.{readable_fits, readable_sound}

@@ -1,5 +1,4 @@
-use Rattle.std.proofs.Common.{◌-◌, length, sym, ◌∙◌, subst}
-use Rattle.table.specs.Table.{table_of}
+use Rattle.std.proofs.Common.{length, sym, ◌∙◌, subst}
 use Rattle.table.specs.Sound.{Sound}
 use Rattle.shelf_holdings.specs.Memory.{memory_of}
 use Rattle.shelf_law.specs.Scratch.{scratch_of, lists_of}
