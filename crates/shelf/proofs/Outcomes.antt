@@ -1,5 +1,5 @@
 -- What transducing by a view of a holding answers is what the holding does.
-use Rattle.std.proofs.Common.{◌≡◌, ℕ, ◌-◌, ◌<◌, List, length, Ok, Err, Result, sym, refl, ap, ◌∙◌, subst}
+use Rattle.std.proofs.Common.{◌≡◌, ℕ, ◌-◌, ◌<◌, List, length, Result, sym, ap, ◌∙◌, subst}
 use Rattle.alphabet.specs.Model.{Model}
 use Rattle.alphabet.specs.Laws.{Lawful}
 use Rattle.table.specs.Table.{Table}

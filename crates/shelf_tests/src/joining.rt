@@ -108,7 +108,7 @@ fn joined_at_work(rt: HostRuntime) -> Result<(), Fail> {
     assert_eq!(rt; join(&rt, heap, &mut memory, 1, 2)?, Ok(3));
     let (answer, written) = transduce(&rt, heap, &mut memory, 3, &[0x41, 0x26], 20)?;
     assert_eq!(rt; answer, Ok(Outcome::Written { state: 0, count: 6 }));
-    assert!(rt; written.as_slice() == &[0x61, 0x26, 0x61, 0x6d, 0x70, 0x3b]);
+    assert!(rt; written.as_slice() == [0x61, 0x26, 0x61, 0x6d, 0x70, 0x3b].as_slice());
     Ok(())
 }
 

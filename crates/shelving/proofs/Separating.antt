@@ -1,13 +1,13 @@
 -- Two holdings told apart, and one pair more.
-use Rattle.std.proofs.Common.{◌≡◌, ℕ, ◌+◌, ◌-◌, ◌<◌, ◌≤◌, List, [], ◌∷◌, ◌++◌, length, take, drop, Ok, Err, Result, sym, refl, ap, ◌∙◌, subst, arith}
+use Rattle.std.proofs.Common.{◌≡◌, ℕ, ◌+◌, ◌-◌, ◌<◌, ◌≤◌, List, [], ◌∷◌, ◌++◌, length, take, drop, Ok, Result, sym, ap, ◌∙◌, subst, arith}
 use Rattle.std.proofs.lemmas.List.{take_at, length-append, length-take-le}
 use Rattle.alphabet.specs.Model.{Model}
 use Rattle.answers.specs.declared.comparison.Comparison.{Comparison}
 use Rattle.answers.specs.declared.comparison.Comparison.TheVariants.{Distinguished}
 use Rattle.answers.specs.declared.fault.Fault.{Fault}
-use Rattle.shelf_holdings.specs.Memory.{Memory, holding}
+use Rattle.shelf_holdings.specs.Memory.{Memory}
 use Rattle.equivalence.specs.Answers.{steps_for}
-use Rattle.shelf_law.specs.Holdings.{Has, numbered}
+use Rattle.shelf_law.specs.Holdings.{numbered}
 use Rattle.shelf_law.specs.Scratch.{Scratch, scratch_of, Enough}
 use Rattle.shelf_law.specs.Comparing as comparing
 use Rattle.shelf_law.specs.Comparing.{Compares, Earliest}

@@ -1,14 +1,13 @@
 -- A run of filings goes on with a history, and leaves a collection whose holdings can all be told apart.
-use Rattle.std.proofs.Common.{◌≡◌, ℕ, ◌+◌, ◌*◌, ◌<◌, ◌≤◌, max, true, ◌⊎◌, List, [], ◌∷◌, ◌++◌, length, Result, sym, refl, ap, ◌∙◌, subst, inl, inr, mul_comm, arith}
+use Rattle.std.proofs.Common.{◌≡◌, ℕ, ◌+◌, ◌*◌, ◌<◌, ◌≤◌, max, true, ◌⊎◌, List, ◌∷◌, length, Result, sym, ap, ◌∙◌, subst, inl, inr, mul_comm, arith}
 use native.Mathlib.Nat.{max_comm}
 use Rattle.alphabet.specs.Model.{Model}
 use Rattle.alphabet.specs.Laws.{Lawful}
 use Rattle.table.specs.Table.{Table}
 use Rattle.answers.specs.declared.fault.Fault.{Fault}
-use Rattle.steps.specs.Places.{steps_needed_lem}
 use Rattle.replay.specs.Sizes.{longest_of}
 use Rattle.judging.specs.Frames.{width_of, room_of}
-use Rattle.equivalence.specs.Answers.{steps_for, symbols_for}
+use Rattle.equivalence.specs.Answers.{steps_for}
 use Rattle.shelf_holdings.specs.Memory.{Memory, holding}
 use Rattle.shelf_holdings.specs.Append.{appended, room_for, Adds}
 use Rattle.shelf_holdings.proofs.Appends.{adds}
@@ -17,7 +16,6 @@ use Rattle.shelf_law.specs.Scratch.{Scratch, Enough}
 use Rattle.shelf_law.specs.Placing.{Placing, short_scratch, double, full, held}
 use Rattle.shelf_law.specs.Calls.{Request, Filing, Readable, Does, unreadable, unsound, no_first, no_second, too_large, files, joins}
 use Rattle.shelf_law.specs.History.{Call, call_of, Reached, calling}
-use Rattle.shelf_law.specs.Law.{Law}
 use Rattle.shelf_law.proofs.Readable.{readable_fits}
 use Rattle.shelf_law.proofs.Laws.{law_holds_lem}
 use Rattle.shelving.specs.declared.report.Verdict.{Verdict}

@@ -1,5 +1,5 @@
 -- Bodies filed one after another, and pairs of holdings told apart one after another.
-use Rattle.std.specs.Prelude.{◌≡◌, ℕ, ◌+◌, ◌<◌, ◌≤◌, List, [], ◌∷◌, ◌++◌, length, Result}
+use Rattle.std.specs.Prelude.{ℕ, ◌+◌, ◌<◌, ◌≤◌, List, [], ◌∷◌, ◌++◌, length, Result}
 use Rattle.alphabet.specs.Model.{Model}
 use Rattle.answers.specs.declared.fault.Fault.{Fault}
 use Rattle.shelf_holdings.specs.Memory.{Memory, holding}

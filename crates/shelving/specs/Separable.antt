@@ -2,7 +2,6 @@
 use Rattle.std.specs.Prelude.{ℕ, ◌<◌, ◌≤◌}
 use Rattle.alphabet.specs.Model.{Model}
 use Rattle.shelf_holdings.specs.Memory.{Memory, holding}
-use Rattle.equivalence.specs.Answers.{steps_for}
 use Rattle.shelf_law.specs.Scratch.{Scratch, Enough}
 use Rattle.shelf_law.specs.Comparing.{ToldApart}
 

@@ -1,4 +1,4 @@
-use Rattle.std.proofs.Common.{◌≡◌, ◌≤◌, [], length, vec_items, sym, refl, ap, ◌∙◌, subst, arith}
+use Rattle.std.proofs.Common.{[], length, vec_items, sym, refl, arith}
 use Rattle.shelf_holdings.specs.Memory.{memory_of}
 use Rattle.shelf_holdings.proofs.Parts.{fitting}
 use Rattle.shelf_law.specs.Scratch.{scratch_of}

@@ -1,6 +1,6 @@
-use Rattle.std.proofs.Common.{◌≡◌, ◌+◌, ◌<◌, [], vec_items, sym, refl, ap, ◌∙◌, subst, arith}
+use Rattle.std.proofs.Common.{◌≡◌, ◌+◌, vec_items, sym, subst, arith}
 use Rattle.shelf_holdings.specs.Memory.{memory_of}
-use Rattle.shelving.specs.Runs.{Told, row}
+use Rattle.shelving.specs.Runs.{Told}
 use Rattle.shelving.proofs.Separating.{separable_at, told_none, told_row}
 use Rattle.shelving.proofs.telling.tell_pairs.Goals as goal
 

@@ -1,4 +1,4 @@
-use Rattle.std.proofs.Common.{◌≡◌, ◌+◌, ◌-◌, ◌≤◌, ◌++◌, length, take, vec_items, sym, refl, ap, ◌∙◌, subst, arith}
+use Rattle.std.proofs.Common.{◌≡◌, ◌+◌, ◌-◌, ◌≤◌, ◌++◌, take, vec_items, sym, refl, ap, ◌∙◌, subst, arith}
 use Rattle.shelf_holdings.specs.Memory.{memory_of}
 use Rattle.shelving.specs.Runs.{Told}
 use Rattle.shelving.proofs.Separating.{separable_at, told_more}

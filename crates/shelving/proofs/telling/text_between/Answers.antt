@@ -1,9 +1,9 @@
-use Rattle.std.proofs.Common.{◌≡◌, length, Ok, sym, refl, ap, ◌∙◌, subst, arith}
+use Rattle.std.proofs.Common.{length, Ok, sym, refl, ap, ◌∙◌, subst, arith}
 use Rattle.shelf_holdings.specs.Memory.{memory_of}
 use Rattle.shelf_law.specs.Holdings.{numbered}
 use Rattle.shelf_law.specs.Scratch.{scratch_of}
 use Rattle.shelf_law.specs.Comparing.{Earliest}
-use Rattle.shelving.proofs.Separating.{told_pair, told_length, told_front, told_within}
+use Rattle.shelving.proofs.Separating.{told_pair, told_front, told_within}
 use Rattle.shelving.proofs.telling.text_between.Goals as goal
 
 pub returns-in_default : goal.returns-in_default
