@@ -7,7 +7,7 @@
 
 pub mod compare;
 pub mod file;
-pub mod join;
+pub mod join_holdings;
 pub mod lent;
 pub mod open;
 pub mod transduce;

@@ -7,7 +7,7 @@ use filter::Outcome;
 use join_pairs::Pair;
 use shelf::compare::compare;
 use shelf::file::file;
-use shelf::join::join;
+use shelf::join_holdings::join;
 use shelf::lent::{JoinLists, Scratch};
 use shelf::transduce::transduce;
 use shelf_holdings::{Head, Shelf};

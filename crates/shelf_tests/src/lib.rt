@@ -14,7 +14,7 @@ mod drafts;
 #[cfg(test)]
 mod filing;
 #[cfg(test)]
-mod joining;
+mod joins;
 #[cfg(test)]
 mod memory;
 #[cfg(test)]

@@ -2,9 +2,9 @@
 #![tactic(auto)]
 
 pub mod filing;
+pub mod pair_texts;
 pub mod report;
 pub mod shelve;
-pub mod telling;
 
 pub use report::{Pair, Pairs, Verdict};
 pub use shelve::{ShelveFault, Shelved};

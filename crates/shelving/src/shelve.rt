@@ -7,8 +7,8 @@ ghost use Rattle.shelving.specs.declared.shelve.ShelveFault.TheVariants.{NoMemor
 ghost use Rattle.shelving.specs.Shelving.{Shelving, Shelves};
 
 use crate::filing::file_bodies;
+use crate::pair_texts::tell_pairs;
 use crate::report::{Pairs, Verdict};
-use crate::telling::tell_pairs;
 use alphabet::Alphabet;
 use comparing::BLANK;
 use shelf::open::open;

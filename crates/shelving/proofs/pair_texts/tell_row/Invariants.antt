@@ -1,7 +1,7 @@
 use Rattle.std.proofs.Common.{◌≡◌, length, vec_items}
 use Rattle.shelf_holdings.specs.Memory.{memory_of}
 use Rattle.shelving.specs.Runs.{Told}
-use Rattle.shelving.proofs.telling.tell_row.Given as goal
+use Rattle.shelving.proofs.pair_texts.tell_row.Given as goal
 
 -- the pairs before were told apart
 abbrev pub invariant-loop-second : goal.invariant-loop-second

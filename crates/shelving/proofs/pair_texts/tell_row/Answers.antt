@@ -2,7 +2,7 @@ use Rattle.std.proofs.Common.{◌≡◌, ◌+◌, ◌-◌, ◌≤◌, ◌++◌, 
 use Rattle.shelf_holdings.specs.Memory.{memory_of}
 use Rattle.shelving.specs.Runs.{Told}
 use Rattle.shelving.proofs.Separating.{separable_at, told_more}
-use Rattle.shelving.proofs.telling.tell_row.Goals as goal
+use Rattle.shelving.proofs.pair_texts.tell_row.Goals as goal
 
 pub loop-second-init : goal.loop-second-init
 loop-second-init g c = (refl, c.requires.before)

@@ -6,7 +6,7 @@ use Rattle.shelf_law.proofs.Compositions.{joining_composes}
 use Rattle.shelf_law.proofs.Laws.{law_of}
 use Rattle.shelf.specs.Lent.{lent, lent_lists}
 use Rattle.shelf.proofs.Refusals.{placed_has, placeless_none}
-use Rattle.shelf.proofs.join.join.Goals as goal
+use Rattle.shelf.proofs.join_holdings.join.Goals as goal
 
 pub returns-in_err-check : goal.returns-in_err-check
 returns-in_err-check g c =

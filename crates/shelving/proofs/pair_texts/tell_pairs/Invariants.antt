@@ -1,7 +1,7 @@
 use Rattle.std.proofs.Common.{◌+◌, vec_items}
 use Rattle.shelf_holdings.specs.Memory.{memory_of}
 use Rattle.shelving.specs.Runs.{Told}
-use Rattle.shelving.proofs.telling.tell_pairs.Given as goal
+use Rattle.shelving.proofs.pair_texts.tell_pairs.Given as goal
 
 -- the holdings before were told apart from all later ones
 abbrev pub invariant-loop-first : goal.invariant-loop-first

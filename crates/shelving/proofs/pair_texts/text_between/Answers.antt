@@ -4,7 +4,7 @@ use Rattle.shelf_law.specs.Holdings.{numbered}
 use Rattle.shelf_law.specs.Scratch.{scratch_of}
 use Rattle.shelf_law.specs.Comparing.{Earliest}
 use Rattle.shelving.proofs.Separating.{told_pair, told_front, told_within}
-use Rattle.shelving.proofs.telling.text_between.Goals as goal
+use Rattle.shelving.proofs.pair_texts.text_between.Goals as goal
 
 pub returns-in_default : goal.returns-in_default
 returns-in_default g c =

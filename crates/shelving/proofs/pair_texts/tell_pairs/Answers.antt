@@ -2,7 +2,7 @@ use Rattle.std.proofs.Common.{◌≡◌, ◌+◌, vec_items, sym, subst, arith}
 use Rattle.shelf_holdings.specs.Memory.{memory_of}
 use Rattle.shelving.specs.Runs.{Told}
 use Rattle.shelving.proofs.Separating.{separable_at, told_none, told_row}
-use Rattle.shelving.proofs.telling.tell_pairs.Goals as goal
+use Rattle.shelving.proofs.pair_texts.tell_pairs.Goals as goal
 
 pub loop-first-init : goal.loop-first-init
 loop-first-init g c = told_none g.A.Alphabet.model (memory_of c.args.shelf.now) (vec_items c.new-lines.result) c.new-lines.ensures.items (vec_items c.new-texts.result) c.new-texts.ensures.items
