@@ -7,7 +7,7 @@ fn main() {
     println!("cargo::rustc-link-search=native={exports}");
     println!("cargo::rustc-link-search=native={rattle}");
     println!("cargo::rustc-link-lib=static=exports");
-    println!("cargo::rustc-link-lib=static=rattle_c");
+    println!("cargo::rustc-link-lib=static=libc_c");
     println!("cargo::rerun-if-env-changed=EXPORTS_DIR");
     println!("cargo::rerun-if-changed={exports}/libexports.a");
 }

@@ -25,6 +25,9 @@ fn all(docs: &Path) -> std::io::Result<()> {
     std::fs::create_dir_all(&dir)?;
     let mut report = Report::default();
     report.line("# Tables of one run of `bench/run`\n");
+    let kit = std::process::Command::new("rt").arg("version").output()?;
+    let kit = String::from_utf8_lossy(&kit.stdout);
+    report.line(&format!("The library as `{}` builds it.", kit.trim()));
     let cpu = std::fs::read_to_string("/proc/cpuinfo")?;
     let name = cpu
         .lines()
