@@ -46,19 +46,19 @@ pub fn refused(kind: u32, code: FaultCode) -> Answer
     answer_of(kind, code.number as usize, code.place, cause_of(code.cause))
 }
 
-pub fn check_answer(res: Result<(), TableFault>) -> Answer
-    ensures { result ≡ check_answer_lem res }
+pub fn check_answer(outcome: Result<(), TableFault>) -> Answer
+    ensures { result ≡ check_answer_lem outcome }
 {
-    match res {
+    match outcome {
         Ok(()) => answer_of(0, 0, 0, 0),
         Err(fault) => refused(2, fault.code()),
     }
 }
 
-pub fn transduce_answer(res: Result<Outcome, TransduceFault>) -> Answer
-    ensures { result ≡ transduce_answer_lem res }
+pub fn transduce_answer(outcome: Result<Outcome, TransduceFault>) -> Answer
+    ensures { result ≡ transduce_answer_lem outcome }
 {
-    match res {
+    match outcome {
         Ok(Outcome::Written { state, count }) => answer_of(0, state as usize, count, 0),
         Ok(Outcome::Rejected { position }) => answer_of(1, position, 0, 0),
         Err(fault) => refused(2, fault.code()),
@@ -79,11 +79,14 @@ pub fn tell(text: &[u32], witness: &mut [u32]) -> Answer
 }
 
 // The answer to a comparison, with a distinguishing text written to the witness.
-pub fn compare_answer(res: Result<Option<Vec<u32>>, CompareFault>, witness: &mut [u32]) -> Answer
-    ensures answer { result ≡ compare_answer_lem res witness.old }
-    ensures witness { witness.new ≡ witness_after res witness.old }
+pub fn compare_answer(
+    outcome: Result<Option<Vec<u32>>, CompareFault>,
+    witness: &mut [u32],
+) -> Answer
+    ensures answer { result ≡ compare_answer_lem outcome witness.old }
+    ensures witness { witness.new ≡ witness_after outcome witness.old }
 {
-    match res {
+    match outcome {
         Ok(None) => answer_of(0, 0, 0, 0),
         Ok(Some(text)) => tell(text.as_slice(), witness),
         Err(CompareFault::First(fault)) => refused(2, fault.code()),

@@ -141,15 +141,15 @@ fn join_sizes(
 
 // The answer to a join, with the joined filter written to three lists.
 pub fn join_answer(
-    res: Result<Owned, JoinFault>,
+    outcome: Result<Owned, JoinFault>,
     states: &mut [FlatState],
     rules: &mut [FlatRule],
     outputs: &mut [FlatTerm],
 ) -> Answer
-    ensures answer { result ≡ join_answer_lem res (length states.old) (length rules.old) (length outputs.old) }
-    ensures lists { Listed res states.old states.new rules.old rules.new outputs.old outputs.new }
+    ensures answer { result ≡ join_answer_lem outcome (length states.old) (length rules.old) (length outputs.old) }
+    ensures lists { Listed outcome states.old states.new rules.old rules.new outputs.old outputs.new }
 {
-    match res {
+    match outcome {
         Ok(table) => join_sizes(&table, states, rules, outputs),
         Err(JoinFault::First(fault)) => refused(2, fault.code()),
         Err(JoinFault::Second(fault)) => refused(4, fault.code()),

@@ -22,5 +22,5 @@ front (a ∷ []) = Err (CutShort 1)
 front (a ∷ (b ∷ rest)) = named a
 
 -- of at most 16,384 bytes
-abbrev pub kind_of : List ℕ → Result Kind InputFault
-kind_of file = cond (nat_le (length file) 16384) (front file) (Err TooLong)
+abbrev pub kind_of_lem : List ℕ → Result Kind InputFault
+kind_of_lem file = cond (nat_le (length file) 16384) (front file) (Err TooLong)

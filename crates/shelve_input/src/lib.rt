@@ -2,7 +2,7 @@
 #![tactic(auto)]
 
 ghost use Rattle.std.specs.Prelude.{◌≡◌};
-ghost use Rattle.shelve_input.specs.Input.{kind_of, code_of};
+ghost use Rattle.shelve_input.specs.Input.{kind_of_lem, code_of};
 
 // The most bytes of a file.
 pub const MOST_BYTES: usize = 16384;
@@ -48,7 +48,7 @@ impl InputFault {
 
 // The alphabet that the first byte of a file names.
 pub fn kind_of(file: &[u8]) -> Result<Kind, InputFault>
-    ensures { result ≡ kind_of file.now }
+    ensures { result ≡ kind_of_lem file.now }
 {
     if file.len() > MOST_BYTES {
         return Err(InputFault::TooLong);
