@@ -1,17 +1,13 @@
-use Rattle.std.proofs.Common.{◌≡◌, ◌+◌, ◌-◌, ◌≤◌, [], ◌++◌, length, get_or, take, drop, Ok, Err, sym, refl, ap, ◌∙◌, arith}
+use Rattle.std.proofs.Common.{◌≡◌, ◌+◌, ◌-◌, ◌≤◌, ◌++◌, length, get_or, take, drop, Ok, Err, sym, ap, ◌∙◌, arith}
 use Rattle.std.proofs.lemmas.List.{length-append, length-take}
 use Rattle.machine.specs.Walk.{position}
-use Rattle.machine.proofs.Walks.{along_start, along_step, along_stuck, along_end}
+use Rattle.machine.proofs.Walks.{along_step, along_stuck, along_end}
 use Rattle.table.specs.Table.{table_of}
 use Rattle.filter.specs.Machines.{values_of, machine_of}
 use Rattle.filter.specs.Outcomes.{put, end_of}
 use Rattle.filter.proofs.Emits.{values_few}
 use Rattle.filter.proofs.Puts.{put_append}
 use Rattle.filter.proofs.walk.walk.Goals as goal
-
-pub loop-position-init : goal.loop-position-init
-loop-position-init g c =
-    ([], along_start (machine_of g.A.Alphabet.model (table_of c.args.filter.now.draft)) c.args.text.now c.args.start, refl, omega arith, refl)
 
 pub returns-in_default : goal.returns-in_default
 returns-in_default g c =
