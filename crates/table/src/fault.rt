@@ -1,8 +1,9 @@
 // The faults of a table, each with its place, and with the cause where the alphabet gives one.
-ghost use Rattle.std.specs.Prelude.{◌≡◌};
-ghost use Rattle.table.specs.Faults.{code_of};
+ghost use Rattle.std.specs.Prelude.{◌≡◌, Some};
+ghost use Rattle.table.specs.Faults.{code_of, code_text};
 
 use alphabet::Cause;
+use std::fmt;
 
 // In the order in which they are looked for. States, rules and outputs are numbered from 0 within their lists.
 #[derive(Clone, Copy, Debug, PartialEq)]
@@ -55,5 +56,16 @@ impl TableFault {
             place,
             cause,
         }
+    }
+}
+
+// The number and the place.
+impl fmt::Display for FaultCode {
+    ghost output = { λ c. Some (code_text c) };
+
+    fn fmt<W: fmt::Write>(&self, f: &mut fmt::Formatter<W>) -> fmt::Result {
+        let number = self.number;
+        let place = self.place;
+        write!(f, "{number} {place}")
     }
 }
