@@ -12,6 +12,7 @@ pub fn letter(mark: u32) -> Option<u8>
     ensures rule { result ≡ letter_of mark }
     ensures back { (b : ℕ) → result ≡ Some b → mark_of b ≡ Some mark }
 {
+    // an `if`, since the table has a character only where the test holds
     if mark < SIZE {
         Some(LETTERS[mark as usize])
     } else {

@@ -32,6 +32,7 @@ fn shifted(symbol: u32, shift: i32, size: u32) -> Option<u32>
     ensures { result ≡ value_at size (Shift shift) symbol }
 {
     let sum = symbol as i64 + shift as i64;
+    // an `if`, since the cast is sound only behind the test, and `then` would put it into a closure
     if symbol < size && 0 <= sum && sum < size as i64 {
         Some(sum as u32)
     } else {
@@ -45,6 +46,7 @@ fn add(one: i32, other: i32, size: u32) -> Option<RangeTerm>
     ensures { result ≡ sum_of size one other }
 {
     let sum = one as i64 + other as i64;
+    // an `if` here too: of a cast in a closure it is not proved that it gives the sum
     if sum.unsigned_abs() < size as u64 {
         Some(RangeTerm::Shift(sum as i32))
     } else {
@@ -146,6 +148,7 @@ impl<const SIZE: u32> Alphabet for Ranges<SIZE> {
     fn constant_value(term: RangeTerm) -> Option<u32> {
         match term {
             RangeTerm::Constant(symbol) => Some(symbol),
+            // `then_some` would say the same no shorter
             RangeTerm::Shift(_) => { if size::<SIZE>() == 1 { Some(0) } else { None } }
         }
     }
