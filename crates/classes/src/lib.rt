@@ -8,7 +8,7 @@ ghost use Rattle.alphabet.specs.Questions.{LeastFrom};
 ghost use Rattle.table.specs.Table.{table_of};
 ghost use Rattle.table.specs.Sound.{Sound};
 ghost use Rattle.filter.specs.Machines.{machine_of};
-ghost use Rattle.classes.specs.Runs.{rule_at_lem, same_rule_of, lower_of, holds_any, changed, thrice, held, over, worth};
+ghost use Rattle.classes.specs.Runs.{rule_at_lem, lower_of, holds_any, changed, thrice, held, over, worth};
 ghost use Rattle.classes.specs.Guided.{Guided, Below};
 
 use alphabet::Alphabet;
@@ -21,19 +21,7 @@ fn lower(one: Option<u32>, other: Option<u32>) -> Option<u32>
 {
     match (one, other) {
         (Some(a), Some(b)) => Some(a.min(b)),
-        (Some(a), None) => Some(a),
-        (None, _) => other,
-    }
-}
-
-// Whether two answers name the same rule, or both none.
-fn same_rule(one: Option<usize>, other: Option<usize>) -> bool
-    ensures { result ≡ same_rule_of one other }
-{
-    match (one, other) {
-        (Some(a), Some(b)) => a == b,
-        (None, None) => true,
-        _ => false,
+        _ => one.or(other),
     }
 }
 
@@ -42,14 +30,8 @@ fn rule_at<A: Alphabet>(draft: &Draft<'_, A>, state: Option<u16>, symbol: u32) -
     requires sound { Sound A.model (table_of draft.now) }
     ensures { result ≡ rule_at_lem A.model (table_of draft.now) state symbol }
 {
-    let Some(state) = state else {
-        return None;
-    };
     let first = final_total(draft.states);
-    match find(draft, first, state, symbol) {
-        Some(found) => Some(found.rule),
-        None => None,
-    }
+    find(draft, first, state?, symbol).map(|found| found.rule)
 }
 
 // The least symbol at or after a number that a rule of the side holds, or none.
@@ -57,9 +39,7 @@ fn first_held<A: Alphabet>(draft: &Draft<'_, A>, state: Option<u16>, from: u32) 
     requires sound { Sound A.model (table_of draft.now) }
     ensures { LeastFrom (holds_any (rule_at_lem A.model (table_of draft.now) state)) from result }
 {
-    let Some(state) = state else {
-        return None;
-    };
+    let state = state?;
     let mut first = None;
     for rule in draft.rules {
         if rule.state == state {
@@ -123,8 +103,8 @@ fn rule_repeats<A: Alphabet>(draft: &Draft<'_, A>, state: Option<u16>, symbol: u
 {
     let rule = rule_at(draft, state, symbol);
     symbol >= 2
-        && same_rule(rule_at(draft, state, symbol - 1), rule)
-        && same_rule(rule_at(draft, state, symbol - 2), rule)
+        && rule_at(draft, state, symbol - 1) == rule
+        && rule_at(draft, state, symbol - 2) == rule
 }
 
 // Whether a symbol's run holds the two symbols before it too.
@@ -157,14 +137,10 @@ pub fn next_symbol<A: Alphabet>(
     ensures guided { Guided (machine_of A.model (table_of left.now)) (machine_of A.model (table_of right.now)) left_state right_state from result }
     ensures bound { Below 2097152 result }
 {
-    let Some(first) = first_of_either(left, right, left_state, right_state, from) else {
-        return None;
-    };
+    let first = first_of_either(left, right, left_state, right_state, from)?;
     if !run_repeats(left, right, left_state, right_state, first) {
         return Some(first);
     }
-    let Some(end) = run_end(left, right, left_state, right_state, first) else {
-        return None;
-    };
+    let end = run_end(left, right, left_state, right_state, first)?;
     first_of_either(left, right, left_state, right_state, end)
 }

@@ -15,10 +15,10 @@ loop-rule-preserved g c =
     let m = g.A.Alphabet.model in
     let rules = c.args.draft.now.rules.now in
     elim c.if-rule-state.branch [
-      | then-rule-state w ↦ rw (w.first-is, w.lower-first.ensures) (held_more m c.in-Some.state c.args.from rules c.loop-rule.rule-index c.rule-item.result c.loop-rule-test.true c.rule-item.is c.loop-rule.first c.loop-rule.invariant w.if-rule-state.true w.first_inside.result w.first_inside.ensures)
-      | else-rule-state w ↦ rw w.first-is (held_other m c.in-Some.state c.args.from rules c.loop-rule.rule-index c.rule-item.result c.loop-rule-test.true c.rule-item.is c.loop-rule.first c.loop-rule.invariant w.if-rule-state.false)
+      | then-rule-state w ↦ rw (w.first-is, w.lower-first.ensures) (held_more m c.in_ok-state.state c.args.from rules c.loop-rule.rule-index c.rule-item.result c.loop-rule-test.true c.rule-item.is c.loop-rule.first c.loop-rule.invariant w.if-rule-state.true w.first_inside.result w.first_inside.ensures)
+      | else-rule-state w ↦ rw w.first-is (held_other m c.in_ok-state.state c.args.from rules c.loop-rule.rule-index c.rule-item.result c.loop-rule-test.true c.rule-item.is c.loop-rule.first c.loop-rule.invariant w.if-rule-state.false)
     ]
 
 pub returns : goal.returns
 returns g c =
-    held_all g.A.Alphabet.model (table_of c.args.draft.now) c.args.state c.in-Some.state c.args.from c.in-Some.is c.loop-rule.rule-index c.loop-rule-test.false c.loop-rule.first c.loop-rule.invariant
+    held_all g.A.Alphabet.model (table_of c.args.draft.now) c.args.state c.in_ok-state.state c.args.from c.in_ok-state.was c.loop-rule.rule-index c.loop-rule-test.false c.loop-rule.first c.loop-rule.invariant
