@@ -1,5 +1,5 @@
 // Comparing what two filters write for the texts of steps.
-ghost use Rattle.std.specs.Prelude.{◌≡◌, ℕ, ◌<◌, ◌≤◌, length, take, Decides};
+ghost use Rattle.std.specs.Prelude.{◌≡◌, ◌≤◌, length, Decides};
 ghost use Rattle.table.specs.Table.{table_of};
 ghost use Rattle.table.specs.Sound.{Sound};
 ghost use Rattle.replay.specs.Replays.{Tracks, Attached, Agrees, RoomFor, lag_by};
@@ -9,15 +9,6 @@ use crate::written::{output, whole};
 use alphabet::Alphabet;
 use steps::{Hand, Step};
 use table::Draft;
-
-// Whether the first n symbols of x are the first k of y.
-fn same_front(x: &[u32], n: usize, y: &[u32], k: usize) -> bool
-    requires left { n ≤ length x.now }
-    requires right { k ≤ length y.now }
-    ensures { Decides result (take n x.now ≡ take k y.now) }
-{
-    &x[0..n] == &y[0..k]
-}
 
 // Whether the two filters write the same for the text of a step, final outputs included, or both reject it.
 pub fn agree<A: Alphabet>(
@@ -39,7 +30,7 @@ pub fn agree<A: Alphabet>(
     let first = whole(left, Hand::Left, steps, step, x);
     let second = whole(right, Hand::Right, steps, step, y);
     match (first, second) {
-        (Some(n), Some(k)) => same_front(x, n, y, k),
+        (Some(n), Some(k)) => x[..n] == y[..k],
         (None, None) => true,
         _ => false,
     }
@@ -70,5 +61,5 @@ pub fn same_lags<A: Alphabet>(
     let j = output(right, Hand::Right, steps, first, y);
     let k = output(left, Hand::Left, steps, second, z);
     let l = output(right, Hand::Right, steps, second, w);
-    same_lag(&x[0..i], &y[0..j], &z[0..k], &w[0..l])
+    same_lag(&x[..i], &y[..j], &z[..k], &w[..l])
 }
