@@ -3,22 +3,25 @@
 
 ghost use Rattle.std.specs.Prelude.{◌≡◌, ◌^◌, ◌<◌, unwrap_or};
 ghost use Rattle.table.specs.Table.{table_of, final_total_of};
-ghost use Rattle.table.specs.Sound.{Sound};
 ghost use Rattle.moves.specs.Moves.{dead_side, Moved};
 
 use alphabet::Alphabet;
 use filter::walk::{Found, find};
 use steps::Side;
-use table::Draft;
+use table::Filter;
 
 // Where a filter stands after one symbol more, or none where it has no move.
-fn move_on<A: Alphabet>(draft: &Draft<'_, A>, first: usize, side: Side, symbol: u32) -> Option<Side>
-    requires sound { Sound A.model (table_of draft.now) }
-    requires first { first ≡ final_total_of draft.now.states.now }
+fn move_on<A: Alphabet>(
+    filter: &Filter<'_, A>,
+    first: usize,
+    side: Side,
+    symbol: u32,
+) -> Option<Side>
+    requires first { first ≡ final_total_of filter.now.draft.states.now }
     requires small { side.total < 2 ^ 31 }
-    ensures { Moved A.model (table_of draft.now) side symbol (unwrap_or result dead_side) }
+    ensures { Moved A.model (table_of filter.now.draft) side symbol (unwrap_or result dead_side) }
 {
-    let Found { next, from, to, .. } = find(draft, first, side.state?, symbol)?;
+    let Found { next, from, to, .. } = find(filter, first, side.state?, symbol)?;
     Some(Side {
         state: Some(next),
         from: from as u16,
@@ -29,11 +32,10 @@ fn move_on<A: Alphabet>(draft: &Draft<'_, A>, first: usize, side: Side, symbol: 
 
 // Where a filter stands after one symbol more. `first` is where the outputs of rules begin. A filter that has no state
 // left has a side of zeros, as what it wrote counts no more.
-pub fn onward<A: Alphabet>(draft: &Draft<'_, A>, first: usize, side: Side, symbol: u32) -> Side
-    requires sound { Sound A.model (table_of draft.now) }
-    requires first { first ≡ final_total_of draft.now.states.now }
+pub fn onward<A: Alphabet>(filter: &Filter<'_, A>, first: usize, side: Side, symbol: u32) -> Side
+    requires first { first ≡ final_total_of filter.now.draft.states.now }
     requires small { side.total < 2 ^ 31 }
-    ensures { Moved A.model (table_of draft.now) side symbol result }
+    ensures { Moved A.model (table_of filter.now.draft) side symbol result }
 {
-    move_on(draft, first, side, symbol).unwrap_or_default()
+    move_on(filter, first, side, symbol).unwrap_or_default()
 }

@@ -1,31 +1,28 @@
 // Comparing what two filters write for the texts of steps.
 ghost use Rattle.std.specs.Prelude.{◌≡◌, ◌≤◌, length, Decides};
 ghost use Rattle.table.specs.Table.{table_of};
-ghost use Rattle.table.specs.Sound.{Sound};
 ghost use Rattle.replay.specs.Replays.{Tracks, Attached, Agrees, RoomFor, lag_by};
 
 use crate::lag::same_lag;
 use crate::written::{output, whole};
 use alphabet::Alphabet;
 use steps::{Hand, Step};
-use table::Draft;
+use table::{Draft, Filter};
 
 // Whether the two filters write the same for the text of a step, final outputs included, or both reject it.
 pub fn agree<A: Alphabet>(
-    left: &Draft<'_, A>,
-    right: &Draft<'_, A>,
+    left: &Filter<'_, A>,
+    right: &Filter<'_, A>,
     steps: &[Step],
     step: Step,
     x: &mut [u32],
     y: &mut [u32],
 ) -> bool
-    requires left { Sound A.model (table_of left.now) }
-    requires right { Sound A.model (table_of right.now) }
-    requires tracks { Tracks A.model (table_of left.now) (table_of right.now) steps.now }
-    requires attached { Attached A.model (table_of left.now) (table_of right.now) steps.now step }
-    requires rooml { RoomFor A.model (table_of left.now) step.left (length x.old) }
-    requires roomr { RoomFor A.model (table_of right.now) step.right (length y.old) }
-    ensures { Decides result (Agrees A.model (table_of left.now) (table_of right.now) steps.now step) }
+    requires tracks { Tracks A.model (table_of left.now.draft) (table_of right.now.draft) steps.now }
+    requires attached { Attached A.model (table_of left.now.draft) (table_of right.now.draft) steps.now step }
+    requires rooml { RoomFor A.model (table_of left.now.draft) step.left (length x.old) }
+    requires roomr { RoomFor A.model (table_of right.now.draft) step.right (length y.old) }
+    ensures { Decides result (Agrees A.model (table_of left.now.draft) (table_of right.now.draft) steps.now step) }
 {
     let first = whole(left, Hand::Left, steps, step, x);
     let second = whole(right, Hand::Right, steps, step, y);
