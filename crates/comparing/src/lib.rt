@@ -74,7 +74,7 @@ pub fn compare_drafts<A: Alphabet>(
 ) -> Result<Option<Vec<u32>>, CompareFault>
     ensures { Compares A.model (table_of first.now) (table_of second.now) result }
 {
-    let first = Filter::new(*first).map_err(CompareFault::First)?;
-    let second = Filter::new(*second).map_err(CompareFault::Second)?;
-    compare_sound(heap, &first, &second)
+    let left = Filter::new(*first).map_err(CompareFault::First)?;
+    let right = Filter::new(*second).map_err(CompareFault::Second)?;
+    compare_sound(heap, &left, &right)
 }

@@ -9,7 +9,7 @@ ghost use Rattle.judging.specs.Frames.{both_dead_lem};
 ghost use Rattle.judging.specs.Kept.{Kept, Going, Turned, Extends};
 
 use alphabet::Alphabet;
-use classes::next_symbol;
+use classes::{Standing, next_symbol};
 use judging::FilterPair;
 use judging::judge::judge;
 use moves::onward;
@@ -112,14 +112,16 @@ pub fn expand<A: Alphabet>(
     ensures taken { queue.new.taken ≡ queue.old.taken }
     ensures slots { slots_of queue.new ≡ slots_of queue.old }
 {
+    let left = Standing {
+        filter: pair.left,
+        state: step.left.state,
+    };
+    let right = Standing {
+        filter: pair.right,
+        state: step.right.state,
+    };
     let mut from = 0;
-    while let Some(symbol) = next_symbol(
-        pair.left,
-        pair.right,
-        step.left.state,
-        step.right.state,
-        from,
-    ) {
+    while let Some(symbol) = next_symbol(&left, &right, from) {
         attempt(pair, queue, cells, number, symbol, outputs);
         from = symbol + 1;
     }
