@@ -3,168 +3,76 @@
 // first two symbols decides what happens at all of it, so that the others need not be tried.
 #![tactic(auto)]
 
+pub mod sides;
+
 ghost use Rattle.std.specs.Prelude.{◌≡◌, ◌&&◌};
 ghost use Rattle.alphabet.specs.Questions.{LeastFrom};
 ghost use Rattle.table.specs.Table.{table_of};
-ghost use Rattle.table.specs.Sound.{Sound};
 ghost use Rattle.filter.specs.Machines.{machine_of};
-ghost use Rattle.classes.specs.Runs.{rule_at_lem, same_rule_of, lower_of, holds_any, changed, thrice, held, over, worth};
+ghost use Rattle.classes.specs.Runs.{rule_at_lem, lower_of, thrice, held, over, worth};
 ghost use Rattle.classes.specs.Guided.{Guided, Below};
 
 use alphabet::Alphabet;
-use filter::walk::find;
-use table::{Draft, final_total};
+pub use sides::Standing;
 
 // The lower of two numbers, where there are any.
-fn lower(one: Option<u32>, other: Option<u32>) -> Option<u32>
+pub(crate) fn lower(one: Option<u32>, other: Option<u32>) -> Option<u32>
     ensures { result ≡ lower_of one other }
 {
     match (one, other) {
         (Some(a), Some(b)) => Some(a.min(b)),
-        (Some(a), None) => Some(a),
-        (None, _) => other,
-    }
-}
-
-// Whether two answers name the same rule, or both none.
-fn same_rule(one: Option<usize>, other: Option<usize>) -> bool
-    ensures { result ≡ same_rule_of one other }
-{
-    match (one, other) {
-        (Some(a), Some(b)) => a == b,
-        (None, None) => true,
-        _ => false,
-    }
-}
-
-// The number of the rule by which a side moves on a symbol, or none.
-fn rule_at<A: Alphabet>(draft: &Draft<'_, A>, state: Option<u16>, symbol: u32) -> Option<usize>
-    requires sound { Sound A.model (table_of draft.now) }
-    ensures { result ≡ rule_at_lem A.model (table_of draft.now) state symbol }
-{
-    let Some(state) = state else {
-        return None;
-    };
-    let first = final_total(draft.states);
-    match find(draft, first, state, symbol) {
-        Some(found) => Some(found.rule),
-        None => None,
-    }
-}
-
-// The least symbol at or after a number that a rule of the side holds, or none.
-fn first_held<A: Alphabet>(draft: &Draft<'_, A>, state: Option<u16>, from: u32) -> Option<u32>
-    requires sound { Sound A.model (table_of draft.now) }
-    ensures { LeastFrom (holds_any (rule_at_lem A.model (table_of draft.now) state)) from result }
-{
-    let Some(state) = state else {
-        return None;
-    };
-    let mut first = None;
-    for rule in draft.rules {
-        if rule.state == state {
-            first = lower(first, A::first_inside(rule.guard, from));
-        }
-    }
-    first
-}
-
-// The least number behind a symbol at which the side has another rule than at the symbol, or none.
-fn rule_end<A: Alphabet>(draft: &Draft<'_, A>, state: Option<u16>, symbol: u32) -> Option<u32>
-    requires sound { Sound A.model (table_of draft.now) }
-    ensures { LeastFrom (changed (rule_at_lem A.model (table_of draft.now) state) symbol) symbol result }
-{
-    match rule_at(draft, state, symbol) {
-        Some(rule) => Some(A::first_outside(draft.rules[rule].guard, symbol)),
-        None => first_held(draft, state, symbol),
+        _ => one.or(other),
     }
 }
 
 // The least symbol at or after a number that a rule of either side holds, or none.
 fn first_of_either<A: Alphabet>(
-    left: &Draft<'_, A>,
-    right: &Draft<'_, A>,
-    left_state: Option<u16>,
-    right_state: Option<u16>,
+    left: &Standing<'_, '_, A>,
+    right: &Standing<'_, '_, A>,
     from: u32,
 ) -> Option<u32>
-    requires left { Sound A.model (table_of left.now) }
-    requires right { Sound A.model (table_of right.now) }
-    ensures { LeastFrom (held (rule_at_lem A.model (table_of left.now) left_state) (rule_at_lem A.model (table_of right.now) right_state)) from result }
+    ensures { LeastFrom (held (rule_at_lem A.model (table_of left.now.filter.now.draft) left.now.state) (rule_at_lem A.model (table_of right.now.filter.now.draft) right.now.state)) from result }
 {
-    lower(
-        first_held(left, left_state, from),
-        first_held(right, right_state, from),
-    )
+    lower(left.first_held(from), right.first_held(from))
 }
 
 // The end of a symbol's run: the least number behind it at which a side has another rule, or none.
 fn run_end<A: Alphabet>(
-    left: &Draft<'_, A>,
-    right: &Draft<'_, A>,
-    left_state: Option<u16>,
-    right_state: Option<u16>,
+    left: &Standing<'_, '_, A>,
+    right: &Standing<'_, '_, A>,
     symbol: u32,
 ) -> Option<u32>
-    requires left { Sound A.model (table_of left.now) }
-    requires right { Sound A.model (table_of right.now) }
-    ensures { LeastFrom (over (rule_at_lem A.model (table_of left.now) left_state) (rule_at_lem A.model (table_of right.now) right_state) symbol) symbol result }
+    ensures { LeastFrom (over (rule_at_lem A.model (table_of left.now.filter.now.draft) left.now.state) (rule_at_lem A.model (table_of right.now.filter.now.draft) right.now.state) symbol) symbol result }
 {
-    lower(
-        rule_end(left, left_state, symbol),
-        rule_end(right, right_state, symbol),
-    )
-}
-
-// Whether a side has the same rule at a symbol and at the two before it.
-fn rule_repeats<A: Alphabet>(draft: &Draft<'_, A>, state: Option<u16>, symbol: u32) -> bool
-    requires sound { Sound A.model (table_of draft.now) }
-    ensures { result ≡ thrice (rule_at_lem A.model (table_of draft.now) state) symbol }
-{
-    let rule = rule_at(draft, state, symbol);
-    symbol >= 2
-        && same_rule(rule_at(draft, state, symbol - 1), rule)
-        && same_rule(rule_at(draft, state, symbol - 2), rule)
+    lower(left.rule_end(symbol), right.rule_end(symbol))
 }
 
 // Whether a symbol's run holds the two symbols before it too.
 fn run_repeats<A: Alphabet>(
-    left: &Draft<'_, A>,
-    right: &Draft<'_, A>,
-    left_state: Option<u16>,
-    right_state: Option<u16>,
+    left: &Standing<'_, '_, A>,
+    right: &Standing<'_, '_, A>,
     symbol: u32,
 ) -> bool
-    requires left { Sound A.model (table_of left.now) }
-    requires right { Sound A.model (table_of right.now) }
-    ensures { result ≡ (thrice (rule_at_lem A.model (table_of left.now) left_state) symbol && thrice (rule_at_lem A.model (table_of right.now) right_state) symbol) }
+    ensures { result ≡ (thrice (rule_at_lem A.model (table_of left.now.filter.now.draft) left.now.state) symbol && thrice (rule_at_lem A.model (table_of right.now.filter.now.draft) right.now.state) symbol) }
 {
-    rule_repeats(left, left_state, symbol) && rule_repeats(right, right_state, symbol)
+    left.rule_repeats(symbol) && right.rule_repeats(symbol)
 }
 
-// The next symbol worth trying at a pair of states, at or after a number: the first or the second symbol of a run that
-// some rule holds. A side without a state is dead.
+// The next symbol worth trying where two filters stand, at or after a number: the first or the second symbol of a run
+// that some rule holds.
 pub fn next_symbol<A: Alphabet>(
-    left: &Draft<'_, A>,
-    right: &Draft<'_, A>,
-    left_state: Option<u16>,
-    right_state: Option<u16>,
+    left: &Standing<'_, '_, A>,
+    right: &Standing<'_, '_, A>,
     from: u32,
 ) -> Option<u32>
-    requires left { Sound A.model (table_of left.now) }
-    requires right { Sound A.model (table_of right.now) }
-    ensures least { LeastFrom (worth (rule_at_lem A.model (table_of left.now) left_state) (rule_at_lem A.model (table_of right.now) right_state)) from result }
-    ensures guided { Guided (machine_of A.model (table_of left.now)) (machine_of A.model (table_of right.now)) left_state right_state from result }
+    ensures least { LeastFrom (worth (rule_at_lem A.model (table_of left.now.filter.now.draft) left.now.state) (rule_at_lem A.model (table_of right.now.filter.now.draft) right.now.state)) from result }
+    ensures guided { Guided (machine_of A.model (table_of left.now.filter.now.draft)) (machine_of A.model (table_of right.now.filter.now.draft)) left.now.state right.now.state from result }
     ensures bound { Below 2097152 result }
 {
-    let Some(first) = first_of_either(left, right, left_state, right_state, from) else {
-        return None;
-    };
-    if !run_repeats(left, right, left_state, right_state, first) {
+    let first = first_of_either(left, right, from)?;
+    if !run_repeats(left, right, first) {
         return Some(first);
     }
-    let Some(end) = run_end(left, right, left_state, right_state, first) else {
-        return None;
-    };
-    first_of_either(left, right, left_state, right_state, end)
+    let end = run_end(left, right, first)?;
+    first_of_either(left, right, end)
 }

@@ -3,11 +3,11 @@
 
 #[cfg(test)]
 mod tests {
-    use classes::next_symbol;
+    use classes::{Standing, next_symbol};
     use ranges::{Bytes, Range, RangeTerm};
     use std::process::Abort;
     use std::test::Fail;
-    use table::{Draft, Rule, State};
+    use table::{Draft, Filter, Rule, State};
 
     const STATES: [State; 1] = [State { mark: 1, finals: 0 }];
 
@@ -40,18 +40,21 @@ mod tests {
         right_state: Option<u16>,
         tried: &[u32],
     ) -> Result<(), Fail> {
-        left.check()?;
-        right.check()?;
+        let left = Standing {
+            filter: &Filter::new(*left)?,
+            state: left_state,
+        };
+        let right = Standing {
+            filter: &Filter::new(*right)?,
+            state: right_state,
+        };
         let mut from = 0;
         for symbol in tried {
-            let next = next_symbol(left, right, left_state, right_state, from);
+            let next = next_symbol(&left, &right, from);
             assert_eq!(rt; next, Some(*symbol));
             from = symbol.saturating_add(1);
         }
-        assert_eq!(rt;
-            next_symbol(left, right, left_state, right_state, from),
-            None
-        );
+        assert_eq!(rt; next_symbol(&left, &right, from), None);
         Ok(())
     }
 
