@@ -1,7 +1,7 @@
 // Joining two filters: the table of their composition.
 #![tactic(auto)]
 
-ghost use Rattle.std.specs.Prelude.{◌≡◌, ◌≤◌, min, [], ◌∷◌, length};
+ghost use Rattle.std.specs.Prelude.{◌≡◌, ◌≤◌, [], ◌∷◌, length};
 ghost use Rattle.table.specs.Table.{table_of};
 ghost use Rattle.table.specs.Sound.{Sound};
 ghost use Rattle.queue.specs.Held.{entries, room};
@@ -15,6 +15,7 @@ use join_rules::explore;
 use join_states::add_states;
 use join_ways::{Span, TooLarge};
 use queue::Queue;
+use table::check::{MOST_OUTPUTS, MOST_RULES, MOST_STATES};
 use table::{Draft, Rule, State};
 
 // How many states, rules and outputs a filter has.
@@ -23,20 +24,6 @@ pub struct Sizes {
     pub states: usize,
     pub rules: usize,
     pub outputs: usize,
-}
-
-// The most states, rules and outputs of a filter.
-const MOST_STATES: usize = 64;
-
-const MOST_RULES: usize = 1024;
-
-const MOST_OUTPUTS: usize = 4096;
-
-// The smaller of two numbers.
-fn least(a: usize, b: usize) -> usize
-    ensures { result ≡ min a b }
-{
-    if a < b { a } else { b }
 }
 
 // Writes the joined filter to the front of three lists, which are within the limits. In the queue waits the pair (0, 0).
@@ -87,16 +74,14 @@ pub fn join<'x, A: Alphabet>(
     ensures joins { Answers (joined A.model (table_of first.now) (table_of second.now)) (length pairs.old) states.old states.new rules.old rules.new outputs.old outputs.new result }
     ensures composes { Joins A.model (table_of first.now) (table_of second.now) }
 {
-    let most = least(least(states.len(), pairs.len()), MOST_STATES);
+    let most = states.len().min(pairs.len()).min(MOST_STATES);
     if most == 0 {
         return Err(TooLarge);
     }
-    let most_rules = least(rules.len(), MOST_RULES);
-    let most_outputs = least(outputs.len(), MOST_OUTPUTS);
+    let most_rules = rules.len().min(MOST_RULES);
+    let most_outputs = outputs.len().min(MOST_OUTPUTS);
     let mut queue = Queue::new(&mut pairs[0..most]);
-    let Ok(_) = queue.push((0, 0)) else {
-        return Err(TooLarge);
-    };
+    queue.push((0, 0))?;
     let mut path = [Span { from: 0, to: 0 }; 32];
     fill(
         first,

@@ -39,9 +39,7 @@ fn run_constants<A: Alphabet>(
         let Some(symbol) = A::value(*term, 0) else {
             continue;
         };
-        let Ok((next, written)) = walk(second, state, &[symbol], &mut out[count..]) else {
-            return None;
-        };
+        let (next, written) = walk(second, state, &[symbol], &mut out[count..]).ok()?;
         state = next;
         count += written;
     }
@@ -70,9 +68,6 @@ pub fn final_of<A: Alphabet>(
     }
     let from = final_total(&first.states[0..state]);
     let to = from + entry.finals as usize;
-    let Some((reached, count)) = run_constants(second, &first.outputs[from..to], pair.1, &mut *out)
-    else {
-        return None;
-    };
+    let (reached, count) = run_constants(second, &first.outputs[from..to], pair.1, &mut *out)?;
     finish(second, reached, out, count)
 }

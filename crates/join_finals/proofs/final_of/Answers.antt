@@ -64,9 +64,9 @@ run_constants-requires g c =
       room = c.requires.room;
     }
 
-pub returns-in_default : goal.returns-in_default
+pub returns-in_err-reached : goal.returns-in_err-reached
 unfolding final_at
-returns-in_default g c =
+returns-in_err-reached g c =
     let m = g.A.Alphabet.model in
     let F = table_of c.args.first.now in
     let M = machine_of m (table_of c.args.second.now) in
@@ -74,7 +74,7 @@ returns-in_default g c =
     let is = slice_get-get_or F.states q (record { mark = 0; finals = 0 }) c.if-state-first.false in
     let part = part_at m F q (entry F.states q) is c.final_total-from.result c.final_total-from.ensures.total in
     let e = final_accepts m F q (entry F.states q) is c.if-entry-ne1.false ∙ ap (λ l. Some (values_of m l 0)) (sym part) in
-    ap (λ o. and_then o (λ w. transduced_from M w c.args.pair.1)) e ∙ ap (λ o. and_then o (λ r. prefixed r.1 (M.final r.0))) c.in_default.ensures.ran
+    rw c.from_residual.ensures (ap (λ o. and_then o (λ w. transduced_from M w c.args.pair.1)) e ∙ ap (λ o. and_then o (λ r. prefixed r.1 (M.final r.0))) c.in_err-reached.ensures.ran)
 
 pub returns : goal.returns
 unfolding final_at
@@ -87,9 +87,9 @@ returns g c =
     let is = slice_get-get_or F.states q (record { mark = 0; finals = 0 }) c.if-state-first.false in
     let part = part_at m F q (entry F.states q) is c.final_total-from.result c.final_total-from.ensures.total in
     let e = final_accepts m F q (entry F.states q) is c.if-entry-ne1.false ∙ ap (λ l. Some (values_of m l 0)) (sym part) in
-    let ran = c.in-Some.ensures.ran in
-    let p = c.in-Some.reached in
+    let ran = c.in_ok-reached.ensures.ran in
+    let p = c.in_ok-reached.reached in
     let u = values_of m (take ((c.final_total-from.result + (entry F.states q).finals) - c.final_total-from.result) (drop c.final_total-from.result F.outputs)) 0 in
-    let k = final_ends M c.args.pair.1 p c.in-Some.count u c.run_constants.new.out c.finish.new.out (M.final p) ran.0 refl ran.1 (omega (arith, c.requires.room, c.run_constants.auto.out)) (final_short m H c.requires.second p) c.finish.auto.out c.finish.ensures.output in
+    let k = final_ends M c.args.pair.1 p c.in_ok-reached.count u c.run_constants.new.out c.finish.new.out (M.final p) ran.0 refl ran.1 (omega (arith, c.requires.room, c.run_constants.auto.out)) (final_short m H c.requires.second p) c.finish.auto.out c.finish.ensures.output in
     subst (λ r. Ends (final_at m F H c.args.pair) c.finish.new.out r) (sym c.finish.ensures.answer)
-    (subst (λ o. Ends o c.finish.new.out (behind c.in-Some.count (M.final p))) (sym (ap (λ o. and_then o (λ w. transduced_from M w c.args.pair.1)) e)) k)
+    (subst (λ o. Ends o c.finish.new.out (behind c.in_ok-reached.count (M.final p))) (sym (ap (λ o. and_then o (λ w. transduced_from M w c.args.pair.1)) e)) k)
