@@ -9,7 +9,7 @@ use Rattle.filter.proofs.transducing.transduce_sound.Goals as goal
 
 pub returns-in_default : goal.returns-in_default
 returns-in_default g c =
-    let M = machine_of g.A.Alphabet.model (table_of c.args.draft.now) in
+    let M = machine_of g.A.Alphabet.model (table_of c.args.filter.now.draft) in
     let through = sym c.walk.ensures.answer ∙ c.in-Ok.is in
     let none = behind_none c.in-Ok.end.1 (M.final c.in-Ok.end.0) (sym c.finish.ensures.answer ∙ c.in_default.is) in
     record {
@@ -19,7 +19,7 @@ returns-in_default g c =
 
 pub returns-then-needed-out : goal.returns-then-needed-out
 returns-then-needed-out g c =
-    let M = machine_of g.A.Alphabet.model (table_of c.args.draft.now) in
+    let M = machine_of g.A.Alphabet.model (table_of c.args.filter.now.draft) in
     let n = c.in-Ok.end.1 in
     let through = sym c.walk.ensures.answer ∙ c.in-Ok.is in
     let some = behind_some n c.in-Some.needed (M.final c.in-Ok.end.0) (sym c.finish.ensures.answer ∙ c.in-Some.is) in
@@ -31,7 +31,7 @@ returns-then-needed-out g c =
 
 pub returns : goal.returns
 returns g c =
-    let M = machine_of g.A.Alphabet.model (table_of c.args.draft.now) in
+    let M = machine_of g.A.Alphabet.model (table_of c.args.filter.now.draft) in
     let text = c.args.text.now in
     let p = c.in-Ok.end.0 in
     let n = c.in-Ok.end.1 in
