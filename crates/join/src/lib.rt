@@ -3,7 +3,6 @@
 
 ghost use Rattle.std.specs.Prelude.{◌≡◌, ◌≤◌, [], ◌∷◌, length};
 ghost use Rattle.table.specs.Table.{table_of};
-ghost use Rattle.table.specs.Sound.{Sound};
 ghost use Rattle.queue.specs.Held.{entries, room};
 ghost use Rattle.join_laws.specs.Joined.{joined};
 ghost use Rattle.join_laws.specs.Theorems.{Joins};
@@ -16,7 +15,7 @@ use join_states::add_states;
 use join_ways::{Span, TooLarge};
 use queue::Queue;
 use table::check::{MOST_OUTPUTS, MOST_RULES, MOST_STATES};
-use table::{Draft, Rule, State};
+use table::{Filter, Rule, State};
 
 // How many states, rules and outputs a filter has.
 #[derive(Clone, Copy)]
@@ -28,24 +27,22 @@ pub struct Sizes {
 
 // Writes the joined filter to the front of three lists, which are within the limits. In the queue waits the pair (0, 0).
 fn fill<'x, A: Alphabet>(
-    first: &'x Draft<'x, A>,
-    second: &'x Draft<'x, A>,
+    first: &'x Filter<'x, A>,
+    second: &'x Filter<'x, A>,
     states: &mut [State],
     rules: &mut [Rule<A::Guard>],
     outputs: &mut [A::Term],
     queue: &mut Queue<'_, Pair>,
     path: &mut [Span],
 ) -> Result<Sizes, TooLarge>
-    requires first { Sound A.model (table_of first.now) }
-    requires second { Sound A.model (table_of second.now) }
     requires start { entries queue.old ≡ (0, 0) ∷ [] }
     requires waits { queue.old.taken ≡ 0 }
     requires fits { 1 ≤ room queue.old }
     requires few { room queue.old ≤ 64 }
     requires states { room queue.old ≤ length states.old }
     requires path { 32 ≤ length path.old }
-    ensures fills { Fills (joined A.model (table_of first.now) (table_of second.now)) (room queue.old) states.old states.new rules.old rules.new outputs.old outputs.new result }
-    ensures composes { Joins A.model (table_of first.now) (table_of second.now) }
+    ensures fills { Fills (joined A.model (table_of first.now.draft) (table_of second.now.draft)) (room queue.old) states.old states.new rules.old rules.new outputs.old outputs.new result }
+    ensures composes { Joins A.model (table_of first.now.draft) (table_of second.now.draft) }
 {
     let counts = explore(first, second, &mut *queue, path, rules, &mut *outputs)?;
     let from = counts.outputs;
@@ -62,17 +59,15 @@ fn fill<'x, A: Alphabet>(
 // lists, and answers its sizes. Refuses where it is over a limit or over a list; the lists then hold anything. The pair
 // list is scratch.
 pub fn join<'x, A: Alphabet>(
-    first: &'x Draft<'x, A>,
-    second: &'x Draft<'x, A>,
+    first: &'x Filter<'x, A>,
+    second: &'x Filter<'x, A>,
     states: &mut [State],
     rules: &mut [Rule<A::Guard>],
     outputs: &mut [A::Term],
     pairs: &mut [Pair],
 ) -> Result<Sizes, TooLarge>
-    requires first { Sound A.model (table_of first.now) }
-    requires second { Sound A.model (table_of second.now) }
-    ensures joins { Answers (joined A.model (table_of first.now) (table_of second.now)) (length pairs.old) states.old states.new rules.old rules.new outputs.old outputs.new result }
-    ensures composes { Joins A.model (table_of first.now) (table_of second.now) }
+    ensures joins { Answers (joined A.model (table_of first.now.draft) (table_of second.now.draft)) (length pairs.old) states.old states.new rules.old rules.new outputs.old outputs.new result }
+    ensures composes { Joins A.model (table_of first.now.draft) (table_of second.now.draft) }
 {
     let most = states.len().min(pairs.len()).min(MOST_STATES);
     if most == 0 {
