@@ -2,7 +2,7 @@
 use Rattle.std.proofs.Common.{◌≡◌, ℕ, zero, suc, ◌+◌, ◌*◌, ◌<◌, ◌≤◌, Bool, true, cond, ◌&&◌, ltb, List, ◌∷◌, length, take, drop, Some, None, sym, refl, ap, ◌∙◌, suc-mul, arith, length-drop}
 use Rattle.std.proofs.lemmas.List.{drop-take, length-take-le, take-take}
 use Rattle.std.proofs.lemmas.Bool.Decides.{nat_tests}
-use Rattle.shelf_holdings.specs.declared.memory.Entry.{Entry}
+use Rattle.holdings.specs.declared.memory.Entry.{Entry}
 use Rattle.reader.specs.declared.body.Body.{Body}
 use Rattle.reader.specs.Opened.{part_of}
 use Rattle.reader.specs.Parts.{Parts, whole, counts_at_lem, body_at, parts_at, parts_of}

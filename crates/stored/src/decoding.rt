@@ -1,8 +1,8 @@
 // Decoding a file onto a shelf.
 ghost use Rattle.std.specs.Prelude.{◌≡◌, ◌+◌, ◌<◌, ◌≤◌, true, List, length, Ok, Err};
 ghost use Rattle.table.specs.Table.{Table};
-ghost use Rattle.shelf_holdings.specs.Memory.{memory_of, states_of_lem, rules_of, outputs_of_lem, fits as fitting};
-ghost use Rattle.shelf_holdings.specs.Append.{appended};
+ghost use Rattle.holdings.specs.Memory.{memory_of, states_of_lem, rules_of, outputs_of_lem, fits as fitting};
+ghost use Rattle.holdings.specs.Append.{appended};
 ghost use Rattle.codec_laws.specs.Numbers.{at};
 ghost use Rattle.stored_laws.specs.Format.{contents, bytes_of, parsed};
 ghost use Rattle.stored_laws.specs.declared.StoredFault.{StoredFault as Refusal};
@@ -13,7 +13,7 @@ ghost use Rattle.stored.specs.Bodies.{body_table, Full, tables_of_file};
 use alphabet::Alphabet;
 use codec::{GuardRecord, Record, Stored, fill};
 use reader::{Body, Reader};
-use shelf_holdings::{Head, Shelf};
+use holdings::{Head, Shelf};
 use stored_laws::StoredFault;
 
 // What the bodies of a file count together.

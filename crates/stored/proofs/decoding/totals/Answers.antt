@@ -1,8 +1,8 @@
 use Rattle.std.proofs.Common.{◌<◌, ◌≤◌, length, sym, ap, ◌∙◌, arith, rules}
 use Rattle.std.proofs.lemmas.List.{take_all}
 use Rattle.std.proofs.lemmas.List.Sums.{sum_by_more}
-use Rattle.shelf_holdings.specs.declared.memory.Entry.{Entry}
-use Rattle.shelf_holdings.specs.Memory.{states_of_lem, rules_of, outputs_of_lem}
+use Rattle.holdings.specs.declared.memory.Entry.{Entry}
+use Rattle.holdings.specs.Memory.{states_of_lem, rules_of, outputs_of_lem}
 use Rattle.codec_laws.specs.Numbers.{at}
 use Rattle.stored_laws.specs.Format.{contents}
 use Rattle.reader.specs.Opened.{shown}
