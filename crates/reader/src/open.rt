@@ -1,11 +1,12 @@
 // Opening a file and handing out its bodies.
-ghost use Rattle.std.specs.Prelude.{◌≡◌, true, is_ok, Ok};
+ghost use Rattle.std.specs.Prelude.{◌≡◌, ◌-◌, true, is_ok, Ok};
+ghost use Rattle.std.specs.Iterator.{at_most};
 ghost use Rattle.codec_laws.specs.Numbers.{at};
 ghost use Rattle.stored_laws.specs.Format.{then, contents as all_counts_lem, bodies_at, wrong_in, checked_file};
 ghost use Rattle.reader.specs.Parts.{whole as is_whole, parts_of};
-ghost use Rattle.reader.specs.Opened.{file_of, shown};
+ghost use Rattle.reader.specs.Opened.{file_of, shown, Hands};
 
-use crate::body::{Body, Reader, Span};
+use crate::body::{Bodies, Body, Reader, Span};
 use crate::places::{body_at, counts_at, is_whole, size_of, to_outputs};
 use codec::{GuardRecord, Record, Stored, first_wrong};
 use stored_laws::StoredFault;
@@ -95,5 +96,30 @@ impl<'a> Reader<'a> {
                 bytes: &file[outputs..end],
             },
         })
+    }
+
+    // All bodies, in their order.
+    pub fn bodies(&self) -> Bodies<'a>
+        ensures file { result.reader.file.now ≡ self.now.file.now }
+        ensures start { result.given ≡ 0 }
+    {
+        Bodies {
+            reader: *self,
+            given: 0,
+        }
+    }
+}
+
+impl<'a> Iterator for Bodies<'a> {
+    type Item = Body<'a>;
+
+    ghost next_gives = { Hands };
+
+    ghost remaining = { λ s. at_most (at s.reader.file.now 1 - s.given) };
+
+    fn next(&mut self) -> Option<Body<'a>> {
+        let body = self.reader.body(self.given)?;
+        self.given += 1;
+        Some(body)
     }
 }
