@@ -15,20 +15,16 @@ use stored_laws::StoredFault;
 const MOST_BODIES: u8 = 16;
 
 // The place of the first wrong byte of a file, or none.
-fn first_bad<T: Record>(file: &[u8]) -> Option<usize>
-    requires whole { is_whole file.now ≡ true }
+fn first_bad<T: Record>(reader: &Reader<'_>) -> Option<usize>
+    requires whole { is_whole reader.now.file.now ≡ true }
     requires five { T.Record.code.width ≡ 5 }
-    ensures { result ≡ wrong_in T.Record.code file.now (bodies_at file.now) (all_counts_lem file.now) }
+    ensures { result ≡ wrong_in T.Record.code reader.now.file.now (bodies_at reader.now.file.now) (all_counts_lem reader.now.file.now) }
 {
-    let bodies = file[1] as usize;
-    let mut place = 2 + bodies * 6;
-    for i in 0..bodies {
-        let counts = counts_at(file, i);
-        let outputs = place + to_outputs(counts);
-        if let Some(bad) = first_wrong::<T>(file, outputs, counts.outputs as usize) {
+    for body in reader.bodies() {
+        let count = body.counts.outputs as usize;
+        if let Some(bad) = first_wrong::<T>(reader.file, body.outputs.place, count) {
             return Some(bad);
         }
-        place += size_of(counts);
     }
     None
 }
@@ -62,10 +58,11 @@ impl<'a> Reader<'a> {
         if size < file.len() {
             return Err(StoredFault::LeftOver(size));
         }
-        if let Some(bad) = first_bad::<A::Term>(file) {
+        let reader = Reader { file };
+        if let Some(bad) = first_bad::<A::Term>(&reader) {
             return Err(StoredFault::BadByte(bad));
         }
-        Ok(Reader { file })
+        Ok(reader)
     }
 
     // The parts of the body behind i others, or none where there is no such body.

@@ -5,7 +5,8 @@ use Rattle.codec_laws.specs.Numbers.{at}
 use Rattle.stored_laws.specs.Shelved.{shelved}
 use Rattle.reader.specs.Parts.{parts_of}
 use Rattle.stored.specs.Bodies.{tables_of_file}
-use Rattle.stored.proofs.Handed.{parts, none_left, there, full}
+use Rattle.reader.proofs.Shown.{parts, none_left, there}
+use Rattle.stored.proofs.Handed.{full}
 use Rattle.stored.proofs.Decodes.{number, has_ledger, has_states, has_rules, has_outputs, next_is}
 use Rattle.stored.proofs.decoding.append_all.Goals as goal
 

@@ -4,8 +4,8 @@ use Rattle.shelf_holdings.specs.Memory.{states_of_lem, rules_of, outputs_of_lem}
 use Rattle.codec_laws.specs.Numbers.{at}
 use Rattle.stored_laws.specs.Format.{contents}
 use Rattle.reader.specs.Parts.{parts_of}
+use Rattle.reader.proofs.Shown.{none_left}
 use Rattle.reader.proofs.Stands.{contents_number}
-use Rattle.stored.proofs.Handed.{none_left}
 use Rattle.stored.proofs.decoding.totals.Goals as goal
 
 pub returns : goal.returns
