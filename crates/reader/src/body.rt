@@ -22,3 +22,10 @@ pub struct Body<'a> {
 pub struct Reader<'a> {
     pub(crate) file: &'a [u8],
 }
+
+// The bodies of a file that are still to be handed out, behind those that were.
+#[derive(Drop)]
+pub struct Bodies<'a> {
+    pub(crate) reader: Reader<'a>,
+    pub(crate) given: usize,
+}

@@ -18,7 +18,8 @@ use Rattle.reader.specs.declared.body.Body.{Body}
 use Rattle.reader.specs.Parts.{whole, parts_of}
 use Rattle.reader.proofs.Stands.{contents_number, is_whole}
 use Rattle.stored.specs.Bodies.{body_table, tables_of_file}
-use Rattle.stored.proofs.Handed.{parts, there, body_counts, table_there}
+use Rattle.reader.proofs.Shown.{parts, there}
+use Rattle.stored.proofs.Handed.{body_counts, table_there}
 
 module _ {G T : Type 0} (guard : Code G) (term : Code T) (five : term.width ≡ 5) (file : List ℕ) (ok : whole file ≡ true) where
   pub number : length (tables_of_file guard term file) ≡ at file 1
