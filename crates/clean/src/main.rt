@@ -18,43 +18,58 @@ use std::env;
 use std::io::Read;
 use table::Draft;
 
-// The filters to use.
-#[derive(Clone, Copy)]
-struct Choice {
-    escape: bool,
-    lower: bool,
-    ascii: bool,
-    public: bool,
+// A filter to use.
+#[derive(Clone, Copy, PartialEq)]
+enum Choice {
+    Escape,
+    Lower,
+    Ascii,
+    Public,
 }
 
-fn all_filters(chosen: bool) -> Choice {
-    Choice {
-        escape: chosen,
-        lower: chosen,
-        ascii: chosen,
-        public: chosen,
+// The filters in the order in which they are used.
+const CHOICES: [Choice; 4] = [Choice::Escape, Choice::Lower, Choice::Ascii, Choice::Public];
+
+impl Choice {
+    // The filter that an argument names.
+    fn named(name: &str) -> Option<Choice> {
+        match name {
+            "escape" => Some(Choice::Escape),
+            "lower" => Some(Choice::Lower),
+            "ascii" => Some(Choice::Ascii),
+            "public" => Some(Choice::Public),
+            _ => None,
+        }
+    }
+
+    // Cleans a note.
+    fn clean(self, rt: &HostRuntime, note: &[u8]) -> anyhow::Result<()> {
+        match self {
+            Choice::Escape => {
+                use_filter::<Bytes, ByteScript>(rt, "escape", &bytes::escape(), note)
+            }
+            Choice::Lower => use_filter::<Bytes, ByteScript>(rt, "lower", &bytes::lower(), note),
+            Choice::Ascii => use_filter::<Bytes, ByteScript>(rt, "ascii", &bytes::ascii(), note),
+            Choice::Public => {
+                use_filter::<Marks, MarkScript>(rt, "public", &shelf_marks::public_form(), note)
+            }
+        }
     }
 }
 
 // The filters that the arguments name, or all of them.
-fn chosen(rt: &HostRuntime) -> anyhow::Result<Choice> {
-    let mut choice = all_filters(false);
-    let mut any = false;
+fn choices(rt: &HostRuntime) -> anyhow::Result<Vec<Choice>> {
+    let mut chosen = Vec::new(rt.alloc());
     for name in env::args(rt)?.skip(1) {
-        match name.as_str() {
-            "escape" => choice.escape = true,
-            "lower" => choice.lower = true,
-            "ascii" => choice.ascii = true,
-            "public" => choice.public = true,
-            _ => return Err(anyhow!("the filters are: escape lower ascii public")),
-        }
-        any = true;
+        let Some(choice) = Choice::named(name.as_str()) else {
+            return Err(anyhow!("the filters are: escape lower ascii public"));
+        };
+        chosen.push(choice)?;
     }
-    if any {
-        Ok(choice)
-    } else {
-        Ok(all_filters(true))
+    if chosen.is_empty() {
+        chosen.extend_from_slice(&CHOICES)?;
     }
+    Ok(chosen)
 }
 
 // Prints what became of a note.
@@ -100,41 +115,26 @@ fn use_filter<A: Alphabet, S: Script>(
     report::<S>(rt, cleaned)
 }
 
-// Cleans a note with each filter of the choice.
-fn clean_note(rt: &HostRuntime, choice: Choice, note: &[u8]) -> anyhow::Result<()> {
+// Cleans a note with each of the filters.
+fn clean_note(rt: &HostRuntime, chosen: &[Choice], note: &[u8]) -> anyhow::Result<()> {
     let text = text_of::<ByteScript>(rt.alloc(), note)?;
     let note_shown = shown::<ByteScript>(rt.alloc(), text.as_slice())?;
     println!(rt; "note {note_shown}")?;
-    if choice.escape {
-        use_filter::<Bytes, ByteScript>(rt, "escape", &bytes::escape(), note)?;
-    }
-    if choice.lower {
-        use_filter::<Bytes, ByteScript>(rt, "lower", &bytes::lower(), note)?;
-    }
-    if choice.ascii {
-        use_filter::<Bytes, ByteScript>(rt, "ascii", &bytes::ascii(), note)?;
-    }
-    if choice.public {
-        use_filter::<Marks, MarkScript>(rt, "public", &shelf_marks::public_form(), note)?;
+    for choice in CHOICES {
+        if chosen.contains(&choice) {
+            choice.clean(rt, note)?;
+        }
     }
     Ok(())
 }
 
 fn run(rt: &HostRuntime) -> anyhow::Result<()> {
-    let choice = chosen(rt)?;
+    let chosen = choices(rt)?;
     let mut input = Vec::new(rt.alloc());
     rt.stdin().read_to_end(&mut input)?;
-    let mut note: Vec<u8> = Vec::new(rt.alloc());
-    for byte in input.as_slice() {
-        if *byte == b'\n' {
-            clean_note(rt, choice, note.as_slice())?;
-            note.clear();
-        } else {
-            note.push(*byte)?;
-        }
-    }
-    if !note.is_empty() {
-        clean_note(rt, choice, note.as_slice())?;
+    for line in input.as_slice().split_inclusive(|byte| *byte == b'\n') {
+        let note = line.strip_suffix(b"\n").unwrap_or(line);
+        clean_note(rt, chosen.as_slice(), note)?;
     }
     Ok(())
 }

@@ -11,6 +11,9 @@ pub trait Script {
     fn byte(symbol: u32) -> Option<u8>;
 }
 
+// What a character that is no mark is read as: a symbol that no guard holds.
+const NO_MARK: u32 = 37;
+
 pub struct ByteScript {}
 
 pub struct MarkScript {}
@@ -21,20 +24,13 @@ impl Script for ByteScript {
     }
 
     fn byte(symbol: u32) -> Option<u8> {
-        match u8::try_from(symbol) {
-            Ok(byte) => Some(byte),
-            Err(_) => None,
-        }
+        u8::try_from(symbol).ok()
     }
 }
 
 impl Script for MarkScript {
-    // A character that is no mark is read as 37, which no guard holds.
     fn symbol(byte: u8) -> u32 {
-        match mark_of(byte) {
-            Some(mark) => mark,
-            None => 37,
-        }
+        mark_of(byte).unwrap_or(NO_MARK)
     }
 
     fn byte(symbol: u32) -> Option<u8> {
@@ -44,29 +40,15 @@ impl Script for MarkScript {
 
 // A note as a text.
 pub fn text_of<S: Script>(heap: Global, note: &[u8]) -> Result<Vec<u32>, AllocError> {
-    let mut text = Vec::new(heap);
-    for byte in note {
-        text.push(S::symbol(*byte))?;
-    }
-    Ok(text)
-}
-
-fn digit(value: u8) -> char {
-    match value {
-        0..=9 => (b'0' + value) as char,
-        10..=15 => (b'A' + (value - 10)) as char,
-        _ => '?',
-    }
+    note.iter().map(|byte| S::symbol(*byte)).collect(heap)
 }
 
 // Printable ASCII stands as it is; any other byte is shown as \x and two digits.
 fn show_byte(line: &mut String, byte: u8) -> Result<(), AllocError> {
-    if 0x20 <= byte && byte <= 0x7e {
-        return line.push(byte as char);
+    match byte {
+        0x20..=0x7e => line.push(byte as char),
+        _ => write!(line, "\\x{byte:02X}"),
     }
-    line.push_str("\\x")?;
-    line.push(digit(byte / 16))?;
-    line.push(digit(byte % 16))
 }
 
 // A text in quotes.

@@ -1,11 +1,11 @@
 // Entries of a ledger, states and rules as records.
 ghost use Rattle.std.specs.Prelude.{◌≡◌, ◌+◌, ◌≤◌, length};
-ghost use Rattle.shelf_holdings.specs.Append.{over};
+ghost use Rattle.holdings.specs.Append.{over};
 ghost use Rattle.codec_laws.specs.Entries.{entry_code, state_code, rule_code};
 ghost use Rattle.codec_laws.proofs.Laws.{entry_exact, state_exact, rule_exact};
 
 use crate::{GuardRecord, Record};
-use shelf_holdings::Entry;
+use holdings::Entry;
 use table::{Rule, State};
 
 impl Record for Entry {
@@ -64,9 +64,9 @@ impl Record for State {
 }
 
 impl<G: GuardRecord> Record for Rule<G> {
-    ghost code = { rule_code G.GuardRecord.code };
+    ghost code = { rule_code G.Record.code };
 
-    ghost laws = { rule_exact G.GuardRecord.code G.GuardRecord.laws G.GuardRecord.wide G.GuardRecord.free };
+    ghost laws = { rule_exact G.Record.code G.Record.laws G.GuardRecord.wide G.GuardRecord.free };
 
     fn width() -> usize {
         14

@@ -1,6 +1,6 @@
 // Runs of records, one behind another: read into a list, written from a list, looked through for a wrong byte.
 ghost use Rattle.std.specs.Prelude.{◌≡◌, ◌+◌, ◌*◌, ◌≤◌, length, drop};
-ghost use Rattle.shelf_holdings.specs.Append.{over};
+ghost use Rattle.holdings.specs.Append.{over};
 ghost use Rattle.codec_laws.specs.Lists.{image_all, records, wrong_from};
 
 use crate::Record;
@@ -12,10 +12,11 @@ pub fn fill<R: Record>(list: &mut [R], from: usize, count: usize, bytes: &[u8])
     ensures { list.new ≡ over list.old from (records R.code count bytes.now) }
 {
     let width = R::width();
-    let mut at = 0;
-    for i in 0..count {
-        list[from + i] = R::read(&bytes[at..at + width]);
-        at += width;
+    let mut rest = bytes;
+    for place in &mut list[from..from + count] {
+        let (record, behind) = rest.split_at(width);
+        *place = R::read(record);
+        rest = behind;
     }
 }
 
@@ -25,6 +26,7 @@ pub fn put<R: Record>(out: &mut [u8], from: usize, list: &[R]) -> usize
     ensures end { result ≡ from + length list.now * R.code.width }
     ensures bytes { out.new ≡ over out.old from (image_all R.code list.now) }
 {
+    // `chunks_exact_mut` asks for a width above 0, which no record promises, and of what it lends only the length is known.
     let width = R::width();
     let mut end = from;
     for record in list {
@@ -39,6 +41,7 @@ pub fn first_wrong<R: Record>(file: &[u8], from: usize, count: usize) -> Option<
     requires inside { from + count * R.code.width ≤ length file.now }
     ensures { result ≡ wrong_from R.code from count (drop from file.now) }
 {
+    // The place is the answer, and `chunks_exact` asks for a width above 0, which no record promises.
     let width = R::width();
     let mut at = from;
     for i in 0..count {

@@ -23,6 +23,16 @@ struct Table {
     outputs: Vec<RangeTerm>,
 }
 
+impl Table {
+    fn draft(&self) -> Draft<'_, CodePoints> {
+        Draft {
+            states: self.states.as_slice(),
+            rules: self.rules.as_slice(),
+            outputs: self.outputs.as_slice(),
+        }
+    }
+}
+
 // A cycle of states over the letter a, of which only the first accepts.
 fn cycle(heap: Global, count: u16) -> Result<Table, AllocError> {
     let mut states = Vec::new(heap);
@@ -93,17 +103,7 @@ fn wide(heap: Global, turned: bool) -> Result<Table, AllocError> {
 
 // Prints whether two tables are equivalent, or the length of the earliest text that distinguishes them.
 fn report(rt: &HostRuntime, name: &str, one: &Table, other: &Table) -> anyhow::Result<()> {
-    let first: Draft<'_, CodePoints> = Draft {
-        states: one.states.as_slice(),
-        rules: one.rules.as_slice(),
-        outputs: one.outputs.as_slice(),
-    };
-    let second: Draft<'_, CodePoints> = Draft {
-        states: other.states.as_slice(),
-        rules: other.rules.as_slice(),
-        outputs: other.outputs.as_slice(),
-    };
-    match compare_drafts(rt.alloc(), &first, &second) {
+    match compare_drafts(rt.alloc(), &one.draft(), &other.draft()) {
         Ok(None) => println!(rt; "{name}: equivalent")?,
         Ok(Some(text)) => {
             let length = text.len();

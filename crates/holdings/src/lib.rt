@@ -2,10 +2,8 @@
 #![tactic(auto)]
 
 pub mod append;
-pub mod fault;
 pub mod memory;
 pub mod open;
 pub mod views;
 
-pub use fault::Fault;
 pub use memory::{Entry, Head, Shelf};

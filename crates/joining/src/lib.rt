@@ -3,7 +3,7 @@
 
 ghost use Rattle.std.specs.Prelude.{◌≡◌, ◌<◌, ◌≤◌, length};
 ghost use Rattle.table.specs.Table.{table_of};
-ghost use Rattle.shelf_holdings.specs.Memory.{memory_of, holding};
+ghost use Rattle.holdings.specs.Memory.{memory_of, holding};
 ghost use Rattle.join_laws.specs.Joined.{joined};
 ghost use Rattle.join.specs.Filled.{Answers};
 ghost use Rattle.shelf_law.specs.Holdings.{Has};
@@ -13,11 +13,11 @@ ghost use Rattle.joining.specs.Fronts.{front_of_lem};
 
 use alphabet::Alphabet;
 use answers::Fault;
+use holdings::Shelf;
 use join::{Sizes, join as compose};
 use join_pairs::Pair;
 use join_ways::TooLarge;
 use placing::place::place;
-use shelf_holdings::Shelf;
 use steps::Step;
 use table::{Draft, Rule, State};
 

@@ -3,15 +3,15 @@ ghost use Rattle.std.specs.Prelude.{◌≡◌, length, Ok, Decides};
 ghost use Rattle.table.specs.Table.{table_of};
 ghost use Rattle.table.specs.Sound.{Sound};
 ghost use Rattle.filter.specs.Meaning.{Equivalent};
-ghost use Rattle.shelf_holdings.specs.Memory.{memory_of};
-ghost use Rattle.shelf_holdings.specs.Check.{checked_shelf};
+ghost use Rattle.holdings.specs.Memory.{memory_of};
+ghost use Rattle.holdings.specs.Check.{checked_shelf};
 ghost use Rattle.shelf_law.specs.Holdings.{EveryHolding, First};
 ghost use Rattle.shelf_law.specs.Scratch.{scratch_of, Enough};
 
 use alphabet::Alphabet;
 use equivalence::compare::compare;
+use holdings::Shelf;
 use queue::Queue;
-use shelf_holdings::Shelf;
 use steps::Step;
 use table::Draft;
 

@@ -2,8 +2,8 @@
 ghost use Rattle.std.specs.Prelude.{◌≡◌, length, Ok};
 ghost use Rattle.table.specs.Table.{table_of};
 ghost use Rattle.table.specs.Sound.{Sound};
-ghost use Rattle.shelf_holdings.specs.Memory.{memory_of};
-ghost use Rattle.shelf_holdings.specs.Check.{checked_shelf};
+ghost use Rattle.holdings.specs.Memory.{memory_of};
+ghost use Rattle.holdings.specs.Check.{checked_shelf};
 ghost use Rattle.shelf_law.specs.Scratch.{scratch_of};
 ghost use Rattle.shelf_law.specs.Placing.{Placing};
 
@@ -11,7 +11,7 @@ use crate::doubles::first_double;
 use crate::scratch::first_short;
 use alphabet::Alphabet;
 use answers::Fault;
-use shelf_holdings::Shelf;
+use holdings::Shelf;
 use steps::Step;
 use table::Draft;
 
@@ -33,9 +33,6 @@ pub fn place<A: Alphabet>(
     if let Some(number) = first_double(&*shelf, draft, steps, symbols) {
         return Err(Fault::Double(number));
     }
-    if shelf.append(draft) {
-        Ok(shelf.head.holdings)
-    } else {
-        Err(Fault::Full)
-    }
+    shelf.append(draft)?;
+    Ok(shelf.head.holdings)
 }

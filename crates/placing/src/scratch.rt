@@ -2,14 +2,14 @@
 ghost use Rattle.std.specs.Prelude.{◌≡◌, Ok, Decides};
 ghost use Rattle.table.specs.Table.{table_of};
 ghost use Rattle.table.specs.Sound.{Sound};
-ghost use Rattle.shelf_holdings.specs.Memory.{memory_of};
-ghost use Rattle.shelf_holdings.specs.Check.{checked_shelf};
+ghost use Rattle.holdings.specs.Memory.{memory_of};
+ghost use Rattle.holdings.specs.Check.{checked_shelf};
 ghost use Rattle.shelf_law.specs.Holdings.{First};
 ghost use Rattle.shelf_law.specs.Scratch.{scratch_of, Short};
 
 use alphabet::Alphabet;
+use holdings::Shelf;
 use judging::frame_of;
-use shelf_holdings::Shelf;
 use steps::steps_needed;
 use table::Draft;
 

@@ -1,5 +1,5 @@
 // A reader and the bodies that it hands out, all borrowed from the file.
-use shelf_holdings::Entry;
+use holdings::Entry;
 
 // Bytes of a file, and the place at which they begin.
 #[derive(Clone, Copy)]
@@ -21,4 +21,11 @@ pub struct Body<'a> {
 #[derive(Clone, Copy)]
 pub struct Reader<'a> {
     pub(crate) file: &'a [u8],
+}
+
+// The bodies of a file that are still to be handed out, behind those that were.
+#[derive(Drop)]
+pub struct Bodies<'a> {
+    pub(crate) reader: Reader<'a>,
+    pub(crate) given: usize,
 }

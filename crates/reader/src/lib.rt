@@ -5,4 +5,4 @@ pub mod body;
 pub mod open;
 pub mod places;
 
-pub use body::{Body, Reader, Span};
+pub use body::{Bodies, Body, Reader, Span};

@@ -1,11 +1,12 @@
 // Opening a file and handing out its bodies.
-ghost use Rattle.std.specs.Prelude.{◌≡◌, true, is_ok, Ok};
+ghost use Rattle.std.specs.Prelude.{◌≡◌, ◌-◌, true, is_ok, Ok};
+ghost use Rattle.std.specs.Iterator.{at_most};
 ghost use Rattle.codec_laws.specs.Numbers.{at};
 ghost use Rattle.stored_laws.specs.Format.{then, contents as all_counts_lem, bodies_at, wrong_in, checked_file};
 ghost use Rattle.reader.specs.Parts.{whole as is_whole, parts_of};
-ghost use Rattle.reader.specs.Opened.{file_of, shown};
+ghost use Rattle.reader.specs.Opened.{file_of, shown, Hands};
 
-use crate::body::{Body, Reader, Span};
+use crate::body::{Bodies, Body, Reader, Span};
 use crate::places::{body_at, counts_at, is_whole, size_of, to_outputs};
 use codec::{GuardRecord, Record, Stored, first_wrong};
 use stored_laws::StoredFault;
@@ -14,20 +15,16 @@ use stored_laws::StoredFault;
 const MOST_BODIES: u8 = 16;
 
 // The place of the first wrong byte of a file, or none.
-fn first_bad<T: Record>(file: &[u8]) -> Option<usize>
-    requires whole { is_whole file.now ≡ true }
+fn first_bad<T: Record>(reader: &Reader<'_>) -> Option<usize>
+    requires whole { is_whole reader.now.file.now ≡ true }
     requires five { T.Record.code.width ≡ 5 }
-    ensures { result ≡ wrong_in T.Record.code file.now (bodies_at file.now) (all_counts_lem file.now) }
+    ensures { result ≡ wrong_in T.Record.code reader.now.file.now (bodies_at reader.now.file.now) (all_counts_lem reader.now.file.now) }
 {
-    let bodies = file[1] as usize;
-    let mut place = 2 + bodies * 6;
-    for i in 0..bodies {
-        let counts = counts_at(file, i);
-        let outputs = place + to_outputs(counts);
-        if let Some(bad) = first_wrong::<T>(file, outputs, counts.outputs as usize) {
+    for body in reader.bodies() {
+        let count = body.counts.outputs as usize;
+        if let Some(bad) = first_wrong::<T>(reader.file, body.outputs.place, count) {
             return Some(bad);
         }
-        place += size_of(counts);
     }
     None
 }
@@ -61,10 +58,11 @@ impl<'a> Reader<'a> {
         if size < file.len() {
             return Err(StoredFault::LeftOver(size));
         }
-        if let Some(bad) = first_bad::<A::Term>(file) {
+        let reader = Reader { file };
+        if let Some(bad) = first_bad::<A::Term>(&reader) {
             return Err(StoredFault::BadByte(bad));
         }
-        Ok(Reader { file })
+        Ok(reader)
     }
 
     // The parts of the body behind i others, or none where there is no such body.
@@ -95,5 +93,30 @@ impl<'a> Reader<'a> {
                 bytes: &file[outputs..end],
             },
         })
+    }
+
+    // All bodies, in their order.
+    pub fn bodies(&self) -> Bodies<'a>
+        ensures file { result.reader.file.now ≡ self.now.file.now }
+        ensures start { result.given ≡ 0 }
+    {
+        Bodies {
+            reader: *self,
+            given: 0,
+        }
+    }
+}
+
+impl<'a> Iterator for Bodies<'a> {
+    type Item = Body<'a>;
+
+    ghost next_gives = { Hands };
+
+    ghost remaining = { λ s. at_most (at s.reader.file.now 1 - s.given) };
+
+    fn next(&mut self) -> Option<Body<'a>> {
+        let body = self.reader.body(self.given)?;
+        self.given += 1;
+        Some(body)
     }
 }

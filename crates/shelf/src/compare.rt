@@ -1,6 +1,6 @@
 // Comparing two holdings.
 ghost use Rattle.std.specs.Prelude.{List};
-ghost use Rattle.shelf_holdings.specs.Memory.{memory_of};
+ghost use Rattle.holdings.specs.Memory.{memory_of};
 ghost use Rattle.shelf_law.specs.Comparing.{Compares, ToldApart};
 ghost use Rattle.shelf_law.specs.History.{Reached, Call};
 ghost use Rattle.shelf.specs.Lent.{lent};
@@ -8,7 +8,7 @@ ghost use Rattle.shelf.specs.Lent.{lent};
 use crate::lent::Scratch;
 use alphabet::Alphabet;
 use answers::{Comparison, Fault};
-use shelf_holdings::Shelf;
+use holdings::Shelf;
 use telling::distinguish;
 
 // Compares the holdings of two numbers: they are equivalent, or the earliest of the shortest texts that distinguish them

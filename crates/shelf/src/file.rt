@@ -1,6 +1,6 @@
 // Filing a filter.
 ghost use Rattle.table.specs.Table.{table_of};
-ghost use Rattle.shelf_holdings.specs.Memory.{memory_of};
+ghost use Rattle.holdings.specs.Memory.{memory_of};
 ghost use Rattle.shelf_law.specs.Calls.{Filing, Does};
 ghost use Rattle.shelf_law.specs.History.{call_of};
 ghost use Rattle.shelf_law.specs.Law.{KeepsLaw};
@@ -9,8 +9,8 @@ ghost use Rattle.shelf.specs.Lent.{lent};
 use crate::lent::Scratch;
 use alphabet::Alphabet;
 use answers::Fault;
+use holdings::Shelf;
 use placing::place::place;
-use shelf_holdings::Shelf;
 use table::Draft;
 
 // Puts a filter behind the holdings and answers its number, unless the shelf cannot be read, the filter is unsound, the

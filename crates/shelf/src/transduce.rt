@@ -1,11 +1,11 @@
 // Transducing a text by a holding.
-ghost use Rattle.shelf_holdings.specs.Memory.{memory_of};
+ghost use Rattle.holdings.specs.Memory.{memory_of};
 ghost use Rattle.shelf_law.specs.Transducing.{TransducesAt};
 
 use alphabet::Alphabet;
 use answers::Fault;
 use filter::{Outcome, transduce_sound};
-use shelf_holdings::Shelf;
+use holdings::Shelf;
 
 // Transduces a text by the holding of a number, and answers the state reached and how many symbols stand at the front of
 // the output, or where the text is rejected.

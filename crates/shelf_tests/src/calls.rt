@@ -10,7 +10,7 @@ use shelf::file::file;
 use shelf::join_holdings::join;
 use shelf::lent::{JoinLists, Scratch};
 use shelf::transduce::transduce;
-use shelf_holdings::{Head, Shelf};
+use holdings::{Head, Shelf};
 use std::alloc::{AllocError, Global};
 use std::process::Abort;
 use std::test::Fail;

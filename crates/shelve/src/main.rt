@@ -11,7 +11,7 @@ use lines::{Style, print_all};
 use marks::{MarkSet, MarkTerm, Marks};
 use ranges::{Bytes, CodePoints, Range, RangeTerm};
 use shelf::open::open;
-use shelf_holdings::{Entry, Shelf};
+use holdings::{Entry, Shelf};
 use shelve_input::{Kind, kind_of};
 use shelving::ShelveFault;
 use shelving::shelve::shelve;

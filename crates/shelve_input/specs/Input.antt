@@ -1,5 +1,6 @@
 -- Which alphabet a file is of, and the number and place of each fault.
-use Rattle.std.specs.Prelude.{ℕ, cond, List, [], ◌∷◌, length, Ok, Err, Result, ◌==◌, nat_le}
+use Rattle.std.specs.Prelude.{ℕ, cond, List, [], ◌∷◌, ◌++◌, length, Ok, Err, Result, ◌==◌, nat_le}
+use Rattle.std.specs.Fmt.{decimal}
 use Rattle.shelve_input.specs.declared.Kind.{Kind}
 use Rattle.shelve_input.specs.declared.Kind.TheVariants.{Bytes, CodePoints, Marks}
 use Rattle.shelve_input.specs.declared.InputFault.{InputFault}
@@ -11,8 +12,12 @@ code_of TooLong = record { number = 3; place = 2 }
 code_of (CutShort n) = record { number = 17; place = n }
 code_of NoAlphabet = record { number = 18; place = 0 }
 
+-- a code as it is printed: the number, a space, the place
+abbrev pub code_text : InputCode → List ℕ
+code_text c = decimal c.number ++ (32 ∷ decimal c.place)
+
 -- 1 names bytes, 2 code points, 3 marks
-abbrev named : ℕ → Result Kind InputFault
+abbrev pub named : ℕ → Result Kind InputFault
 named b = cond (b == 1) (Ok Bytes) (cond (b == 2) (Ok CodePoints) (cond (b == 3) (Ok Marks) (Err NoAlphabet)))
 
 -- by the first byte of at least two

@@ -1,8 +1,10 @@
 // The input of the program `shelve`: which alphabet a file is of, or why it is refused before it is read.
 #![tactic(auto)]
 
-ghost use Rattle.std.specs.Prelude.{◌≡◌};
-ghost use Rattle.shelve_input.specs.Input.{kind_of_lem, code_of};
+ghost use Rattle.std.specs.Prelude.{◌≡◌, Some};
+ghost use Rattle.shelve_input.specs.Input.{named, kind_of_lem, code_of, code_text};
+
+use std::fmt;
 
 // The most bytes of a file.
 pub const MOST_BYTES: usize = 16384;
@@ -13,6 +15,21 @@ pub enum Kind {
     Bytes,
     CodePoints,
     Marks,
+}
+
+impl TryFrom<u8> for Kind {
+    type Error = InputFault;
+
+    ghost try_from_gives = { λ b r. r ≡ named b };
+
+    fn try_from(byte: u8) -> Result<Kind, InputFault> {
+        match byte {
+            1 => Ok(Kind::Bytes),
+            2 => Ok(Kind::CodePoints),
+            3 => Ok(Kind::Marks),
+            _ => Err(InputFault::NoAlphabet),
+        }
+    }
 }
 
 // Why a file is refused at once.
@@ -46,6 +63,17 @@ impl InputFault {
     }
 }
 
+// The number and the place.
+impl fmt::Display for InputCode {
+    ghost output = { λ c. Some (code_text c) };
+
+    fn fmt<W: fmt::Write>(&self, f: &mut fmt::Formatter<W>) -> fmt::Result {
+        let number = self.number;
+        let place = self.place;
+        write!(f, "{number} {place}")
+    }
+}
+
 // The alphabet that the first byte of a file names.
 pub fn kind_of(file: &[u8]) -> Result<Kind, InputFault>
     ensures { result ≡ kind_of_lem file.now }
@@ -56,12 +84,7 @@ pub fn kind_of(file: &[u8]) -> Result<Kind, InputFault>
     let [alphabet, _, ..] = file else {
         return Err(InputFault::CutShort(file.len()));
     };
-    match *alphabet {
-        1 => Ok(Kind::Bytes),
-        2 => Ok(Kind::CodePoints),
-        3 => Ok(Kind::Marks),
-        _ => Err(InputFault::NoAlphabet),
-    }
+    Kind::try_from(*alphabet)
 }
 
 #[cfg(test)]

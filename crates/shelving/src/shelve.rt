@@ -1,6 +1,6 @@
 // Filing the bodies of a stored shelf on a fresh one, and telling the holdings apart, in memory of its own.
 ghost use Rattle.std.specs.Prelude.{◌≡◌, ◌≤◌, true, [], length, IfOk};
-ghost use Rattle.shelf_holdings.specs.Memory.{memory_of, fits as fitting};
+ghost use Rattle.holdings.specs.Memory.{memory_of, fits as fitting};
 ghost use Rattle.shelf_law.specs.Scratch.{scratch_of};
 ghost use Rattle.shelf_law.specs.History.{Reached};
 ghost use Rattle.shelving.specs.declared.shelve.ShelveFault.TheVariants.{NoMemory};
@@ -8,10 +8,10 @@ ghost use Rattle.shelving.specs.Shelving.{Shelving, Shelves};
 
 use crate::filing::file_bodies;
 use crate::pair_texts::tell_pairs;
-use crate::report::{Pairs, Verdict};
+use crate::report::{Pair, Verdict};
 use alphabet::Alphabet;
+use holdings::Shelf;
 use shelf::open::open;
-use shelf_holdings::Shelf;
 use std::alloc::{AllocError, Global};
 use steps::Step;
 
@@ -19,7 +19,7 @@ use steps::Step;
 #[derive(Drop)]
 pub struct Shelved {
     pub verdicts: Vec<Verdict>,
-    pub pairs: Pairs,
+    pub pairs: Vec<Pair>,
 }
 
 // Why nothing was filed.

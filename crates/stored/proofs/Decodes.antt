@@ -2,10 +2,10 @@
 use Rattle.std.proofs.Common.{◌≡◌, ℕ, ◌+◌, ◌<◌, ◌≤◌, true, List, length, get_or, take, Some, Ok, Err, Result, sym, refl, ap, ◌∙◌, arith}
 use Rattle.std.proofs.lemmas.List.{length-take-le}
 use Rattle.table.specs.Table.{Table}
-use Rattle.shelf_holdings.specs.declared.memory.Entry.{Entry}
-use Rattle.shelf_holdings.specs.declared.memory.Head.{Head}
-use Rattle.shelf_holdings.specs.Memory.{Memory, states_of_lem, rules_of, outputs_of_lem, fits}
-use Rattle.shelf_holdings.specs.Append.{appended}
+use Rattle.holdings.specs.declared.memory.Entry.{Entry}
+use Rattle.holdings.specs.declared.memory.Head.{Head}
+use Rattle.holdings.specs.Memory.{Memory, states_of_lem, rules_of, outputs_of_lem, fits}
+use Rattle.holdings.specs.Append.{appended}
 use Rattle.codec_laws.specs.Code.{Code, Exact, Free}
 use Rattle.codec_laws.specs.Numbers.{at}
 use Rattle.stored_laws.specs.declared.StoredFault.{StoredFault}
@@ -18,7 +18,8 @@ use Rattle.reader.specs.declared.body.Body.{Body}
 use Rattle.reader.specs.Parts.{whole, parts_of}
 use Rattle.reader.proofs.Stands.{contents_number, is_whole}
 use Rattle.stored.specs.Bodies.{body_table, tables_of_file}
-use Rattle.stored.proofs.Handed.{parts, there, body_counts, table_there}
+use Rattle.reader.proofs.Shown.{parts, there}
+use Rattle.stored.proofs.Handed.{body_counts, table_there}
 
 module _ {G T : Type 0} (guard : Code G) (term : Code T) (five : term.width ≡ 5) (file : List ℕ) (ok : whole file ≡ true) where
   pub number : length (tables_of_file guard term file) ≡ at file 1

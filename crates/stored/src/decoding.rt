@@ -1,11 +1,12 @@
 // Decoding a file onto a shelf.
-ghost use Rattle.std.specs.Prelude.{◌≡◌, ◌+◌, ◌<◌, ◌≤◌, true, List, length, Ok, Err};
+ghost use Rattle.std.specs.Prelude.{◌≡◌, ◌+◌, ◌<◌, ◌≤◌, true, List, length, nat_le, Ok, Err};
 ghost use Rattle.table.specs.Table.{Table};
-ghost use Rattle.shelf_holdings.specs.Memory.{memory_of, states_of_lem, rules_of, outputs_of_lem, fits as fitting};
-ghost use Rattle.shelf_holdings.specs.Append.{appended};
+ghost use Rattle.holdings.specs.Memory.{memory_of, states_of_lem, rules_of, outputs_of_lem, fits as fitting};
+ghost use Rattle.holdings.specs.Append.{appended};
 ghost use Rattle.codec_laws.specs.Numbers.{at};
-ghost use Rattle.stored_laws.specs.Format.{contents, bytes_of, parsed};
+ghost use Rattle.stored_laws.specs.Format.{contents, unless, bytes_of, parsed};
 ghost use Rattle.stored_laws.specs.declared.StoredFault.{StoredFault as Refusal};
+ghost use Rattle.stored_laws.specs.declared.StoredFault.TheVariants.{TooShort};
 ghost use Rattle.stored_laws.specs.Shelved.{tables_of, room_for, room_of, shelved, decoded, decoded_memory};
 ghost use Rattle.reader.specs.Parts.{whole};
 ghost use Rattle.stored.specs.Bodies.{body_table, Full, tables_of_file};
@@ -13,8 +14,16 @@ ghost use Rattle.stored.specs.Bodies.{body_table, Full, tables_of_file};
 use alphabet::Alphabet;
 use codec::{GuardRecord, Record, Stored, fill};
 use reader::{Body, Reader};
-use shelf_holdings::{Head, Shelf};
+use holdings::{Head, Shelf};
 use stored_laws::StoredFault;
+
+// The head of a shelf with no holdings.
+const EMPTY: Head = Head {
+    holdings: 0,
+    states: 0,
+    rules: 0,
+    outputs: 0,
+};
 
 // What the bodies of a file count together.
 fn totals(reader: &Reader<'_>) -> Head
@@ -24,21 +33,24 @@ fn totals(reader: &Reader<'_>) -> Head
     ensures rules { result.rules ≡ rules_of (contents reader.now.file.now) }
     ensures outputs { result.outputs ≡ outputs_of_lem (contents reader.now.file.now) }
 {
-    let mut holdings = 0;
-    let mut states = 0;
-    let mut rules = 0;
-    let mut outputs = 0;
-    while let Some(body) = reader.body(holdings) {
-        holdings += 1;
-        states += body.counts.states as usize;
-        rules += body.counts.rules as usize;
-        outputs += body.counts.outputs as usize;
+    let mut head = EMPTY;
+    for body in reader.bodies() {
+        head.holdings += 1;
+        head.states += body.counts.states as usize;
+        head.rules += body.counts.rules as usize;
+        head.outputs += body.counts.outputs as usize;
     }
-    Head {
-        holdings,
-        states,
-        rules,
-        outputs,
+    head
+}
+
+// Whether a list is as long as is needed.
+fn long_enough(length: usize, needed: usize) -> Result<(), StoredFault>
+    ensures { result ≡ unless (nat_le needed length) (TooShort needed) }
+{
+    if length < needed {
+        Err(StoredFault::TooShort(needed))
+    } else {
+        Ok(())
     }
 }
 
@@ -46,19 +58,10 @@ fn totals(reader: &Reader<'_>) -> Head
 fn check_room<A: Alphabet>(shelf: &Shelf<'_, A>, head: Head) -> Result<(), StoredFault>
     ensures { result ≡ room_for (memory_of shelf.now) head }
 {
-    if shelf.ledger.len() < head.holdings {
-        return Err(StoredFault::TooShort(head.holdings));
-    }
-    if shelf.states.len() < head.states {
-        return Err(StoredFault::TooShort(head.states));
-    }
-    if shelf.rules.len() < head.rules {
-        return Err(StoredFault::TooShort(head.rules));
-    }
-    if shelf.outputs.len() < head.outputs {
-        return Err(StoredFault::TooShort(head.outputs));
-    }
-    Ok(())
+    long_enough(shelf.ledger.len(), head.holdings)?;
+    long_enough(shelf.states.len(), head.states)?;
+    long_enough(shelf.rules.len(), head.rules)?;
+    long_enough(shelf.outputs.len(), head.outputs)
 }
 
 // Puts the table of a body behind the holdings.
@@ -72,7 +75,7 @@ where
     requires outputs { shelf.old.head.outputs + body.counts.outputs ≤ length shelf.old.outputs.now }
     requires full { Full body }
     requires five { A.Term.Record.code.width ≡ 5 }
-    ensures { memory_of shelf.new ≡ appended (memory_of shelf.old) (body_table A.Guard.GuardRecord.code A.Term.Record.code body.entry) }
+    ensures { memory_of shelf.new ≡ appended (memory_of shelf.old) (body_table A.Guard.Record.code A.Term.Record.code body.entry) }
 {
     let head = shelf.head;
     let counts = body.counts;
@@ -103,20 +106,13 @@ where
     A::Guard: GuardRecord,
     A::Term: Record,
     requires file { whole reader.now.file.now ≡ true }
-    requires room { room_of (memory_of shelf.old) (tables_of_file A.Guard.GuardRecord.code A.Term.Record.code reader.now.file.now) ≡ Ok tt }
+    requires room { room_of (memory_of shelf.old) (tables_of_file A.Guard.Record.code A.Term.Record.code reader.now.file.now) ≡ Ok tt }
     requires five { A.Term.Record.code.width ≡ 5 }
-    ensures { memory_of shelf.new ≡ shelved (memory_of shelf.old) (tables_of_file A.Guard.GuardRecord.code A.Term.Record.code reader.now.file.now) }
+    ensures { memory_of shelf.new ≡ shelved (memory_of shelf.old) (tables_of_file A.Guard.Record.code A.Term.Record.code reader.now.file.now) }
 {
-    shelf.head = Head {
-        holdings: 0,
-        states: 0,
-        rules: 0,
-        outputs: 0,
-    };
-    let mut i = 0;
-    while let Some(body) = reader.body(i) {
+    shelf.head = EMPTY;
+    for body in reader.bodies() {
         append_body(shelf, body);
-        i += 1;
     }
 }
 
@@ -125,11 +121,11 @@ pub fn decode<A: Stored>(file: &[u8], shelf: &mut Shelf<'_, A>) -> Result<(), St
 where
     A::Guard: GuardRecord,
     A::Term: Record,
-    ensures answer { result ≡ decoded (memory_of shelf.old) (parsed A.Guard.GuardRecord.code A.Term.Record.code A.Stored.number file.now) }
-    ensures memory { memory_of shelf.new ≡ decoded_memory (memory_of shelf.old) (parsed A.Guard.GuardRecord.code A.Term.Record.code A.Stored.number file.now) }
-    ensures tables { (Fs : List (Table _ _)) → result ≡ Ok tt → (parsed A.Guard.GuardRecord.code A.Term.Record.code A.Stored.number file.now) ≡ Ok Fs → tables_of (memory_of shelf.new) ≡ Fs }
+    ensures answer { result ≡ decoded (memory_of shelf.old) (parsed A.Guard.Record.code A.Term.Record.code A.Stored.number file.now) }
+    ensures memory { memory_of shelf.new ≡ decoded_memory (memory_of shelf.old) (parsed A.Guard.Record.code A.Term.Record.code A.Stored.number file.now) }
+    ensures tables { (Fs : List (Table _ _)) → result ≡ Ok tt → (parsed A.Guard.Record.code A.Term.Record.code A.Stored.number file.now) ≡ Ok Fs → tables_of (memory_of shelf.new) ≡ Fs }
     ensures fits { result ≡ Ok tt → fitting (memory_of shelf.new) ≡ true }
-    ensures rewritten { (Fs : List (Table _ _)) → result ≡ Ok tt → (parsed A.Guard.GuardRecord.code A.Term.Record.code A.Stored.number file.now) ≡ Ok Fs → bytes_of A.Guard.GuardRecord.code A.Term.Record.code A.Stored.number Fs ≡ file.now }
+    ensures rewritten { (Fs : List (Table _ _)) → result ≡ Ok tt → (parsed A.Guard.Record.code A.Term.Record.code A.Stored.number file.now) ≡ Ok Fs → bytes_of A.Guard.Record.code A.Term.Record.code A.Stored.number Fs ≡ file.now }
     ensures keeps_on_refusal { (f : Refusal) → result ≡ Err f → memory_of shelf.new ≡ memory_of shelf.old }
 {
     let reader = Reader::open::<A>(file)?;

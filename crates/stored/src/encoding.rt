@@ -1,8 +1,8 @@
 // Writing a shelf as bytes.
 ghost use Rattle.std.specs.Prelude.{◌≡◌, ℕ, ◌+◌, ◌*◌, ◌≤◌, true, List, ◌∷◌, length, take, is_ok, if◌then◌else◌, Ok, Err};
 ghost use Rattle.table.specs.Table.{table_of};
-ghost use Rattle.shelf_holdings.specs.Memory.{memory_of};
-ghost use Rattle.shelf_holdings.specs.Append.{over};
+ghost use Rattle.holdings.specs.Memory.{memory_of};
+ghost use Rattle.holdings.specs.Append.{over};
 ghost use Rattle.codec_laws.specs.Code.{Bytes};
 ghost use Rattle.codec_laws.specs.Entries.{entry_code};
 ghost use Rattle.codec_laws.specs.Lists.{image_all};
@@ -12,7 +12,7 @@ ghost use Rattle.stored_laws.specs.Shelved.{tables_of, shelf_bytes, encoded};
 
 use alphabet::Alphabet;
 use codec::{GuardRecord, Record, Stored, put};
-use shelf_holdings::{Entry, Head, Shelf};
+use holdings::{Entry, Head, Shelf};
 use stored_laws::StoredFault;
 use table::Draft;
 
@@ -44,9 +44,9 @@ fn put_body<A: Stored>(out: &mut [u8], at: usize, view: Draft<'_, A>) -> usize
 where
     A::Guard: GuardRecord,
     A::Term: Record,
-    requires room { at + length (body_of A.Guard.GuardRecord.code A.Term.Record.code (table_of view)) ≤ length out.old }
-    ensures end { result ≡ at + length (body_of A.Guard.GuardRecord.code A.Term.Record.code (table_of view.entry)) }
-    ensures bytes { out.new ≡ over out.old at (body_of A.Guard.GuardRecord.code A.Term.Record.code (table_of view.entry)) }
+    requires room { at + length (body_of A.Guard.Record.code A.Term.Record.code (table_of view)) ≤ length out.old }
+    ensures end { result ≡ at + length (body_of A.Guard.Record.code A.Term.Record.code (table_of view.entry)) }
+    ensures bytes { out.new ≡ over out.old at (body_of A.Guard.Record.code A.Term.Record.code (table_of view.entry)) }
 {
     let rules = put(out, at, view.states);
     let outputs = put(out, rules, view.rules);
@@ -58,15 +58,13 @@ pub fn encode<A: Stored>(shelf: &Shelf<'_, A>, out: &mut [u8]) -> Result<usize, 
 where
     A::Guard: GuardRecord,
     A::Term: Record,
-    ensures answer { result ≡ encoded A.Alphabet.model A.Guard.GuardRecord.code A.Term.Record.code A.Stored.number (memory_of shelf.now) (length out.old) }
-    ensures bytes { out.new ≡ (if is_ok result then over out.old 0 (shelf_bytes A.Alphabet.model A.Guard.GuardRecord.code A.Term.Record.code A.Stored.number (memory_of shelf.now)) else out.old) }
-    ensures back { (n : ℕ) → result ≡ Ok n → parsed A.Guard.GuardRecord.code A.Term.Record.code A.Stored.number (take n out.new) ≡ Ok (tables_of (memory_of shelf.now)) }
-    ensures again { (n : ℕ) (file : List ℕ) → result ≡ Ok n → Bytes file → parsed A.Guard.GuardRecord.code A.Term.Record.code A.Stored.number file ≡ Ok (tables_of (memory_of shelf.now)) → take n out.new ≡ file }
+    ensures answer { result ≡ encoded A.Alphabet.model A.Guard.Record.code A.Term.Record.code A.Stored.number (memory_of shelf.now) (length out.old) }
+    ensures bytes { out.new ≡ (if is_ok result then over out.old 0 (shelf_bytes A.Alphabet.model A.Guard.Record.code A.Term.Record.code A.Stored.number (memory_of shelf.now)) else out.old) }
+    ensures back { (n : ℕ) → result ≡ Ok n → parsed A.Guard.Record.code A.Term.Record.code A.Stored.number (take n out.new) ≡ Ok (tables_of (memory_of shelf.now)) }
+    ensures again { (n : ℕ) (file : List ℕ) → result ≡ Ok n → Bytes file → parsed A.Guard.Record.code A.Term.Record.code A.Stored.number file ≡ Ok (tables_of (memory_of shelf.now)) → take n out.new ≡ file }
     ensures keeps_on_refusal { (f : Refusal) → result ≡ Err f → out.new ≡ out.old }
 {
-    if let Err(fault) = shelf.check() {
-        return Err(StoredFault::Shelf(fault));
-    }
+    shelf.check()?;
     let alphabet = A::byte();
     let size = size_of(shelf.head);
     if out.len() < size {

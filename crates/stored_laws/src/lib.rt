@@ -1,10 +1,12 @@
 // Stored shelves: the faults of a file, what bytes mean, and the bytes of tables.
 #![tactic(auto)]
 
-ghost use Rattle.std.specs.Prelude.{◌≡◌};
-ghost use Rattle.stored_laws.specs.Faults.{code_of};
+ghost use Rattle.std.specs.Prelude.{◌≡◌, Some};
+ghost use Rattle.stored_laws.specs.Faults.{code_of, code_text};
+ghost use Rattle.stored_laws.specs.declared.StoredFault.TheVariants.{Shelf};
 
 use answers::Fault;
+use std::fmt;
 
 // Why a stored shelf cannot be read, decoded or written.
 #[derive(Clone, Copy, Debug, PartialEq)]
@@ -34,6 +36,7 @@ pub struct StoredCode {
 }
 
 impl StoredFault {
+    // The fault as it is reported; the shelf's own is kept whole beside its number and place.
     pub fn code(self) -> StoredCode
         ensures { result ≡ code_of self }
     {
@@ -54,5 +57,24 @@ impl StoredFault {
             place,
             shelf,
         }
+    }
+}
+
+impl From<Fault> for StoredFault {
+    ghost from_gives = { λ f r. r ≡ Shelf f };
+
+    fn from(fault: Fault) -> StoredFault {
+        StoredFault::Shelf(fault)
+    }
+}
+
+// The number and the place.
+impl fmt::Display for StoredCode {
+    ghost output = { λ c. Some (code_text c) };
+
+    fn fmt<W: fmt::Write>(&self, f: &mut fmt::Formatter<W>) -> fmt::Result {
+        let number = self.number;
+        let place = self.place;
+        write!(f, "{number} {place}")
     }
 }

@@ -1,7 +1,7 @@
 use Rattle.std.proofs.Common.{sym, subst}
 use Rattle.table.specs.Sound.{Sound}
-use Rattle.shelf_holdings.specs.Memory.{memory_of}
-use Rattle.shelf_law.proofs.Readable.{readable_fits, readable_sound}
+use Rattle.holdings.specs.Memory.{memory_of}
+use Rattle.holdings.proofs.Readable.{readable_fits, readable_sound}
 use Rattle.joining.proofs.compose_views.Goals as goal
 
 pub view-first-requires : goal.view-first-requires

@@ -1,6 +1,6 @@
 use Rattle.std.proofs.Common.{length, sym, ◌∙◌, subst}
 use Rattle.table.specs.Sound.{Sound}
-use Rattle.shelf_holdings.specs.Memory.{memory_of}
+use Rattle.holdings.specs.Memory.{memory_of}
 use Rattle.shelf_law.specs.Scratch.{scratch_of, lists_of}
 use Rattle.shelf_law.specs.Placing.{Placing}
 use Rattle.shelf_law.specs.Calls.{joined_at, too_large, joins}

@@ -1,23 +1,52 @@
-use Rattle.std.proofs.Common.{◌≡◌, ◌+◌, ◌-◌, ◌≤◌, length, sym, arith, rules}
-use Rattle.codec_laws.proofs.Overs.{over_none}
+use Rattle.std.proofs.Common.{◌≡◌, ℕ, ◌+◌, ◌-◌, ◌*◌, ◌≤◌, List, length, drop, take, sym, ap, ◌∙◌, refl, arith}
+use borrow.Rule.Slice.PartMut.{put_mid}
+use Rattle.std.proofs.lemmas.List.{drop-drop, length-drop, length-take-le}
+use Rattle.codec_laws.specs.Lists.{records}
+use Rattle.codec_laws.proofs.Lists.{records_length}
+use Rattle.codec_laws.proofs.Overs.{over_all, part_over}
 use Rattle.codec.proofs.Turns.{ends, next_at, fill_more}
 use Rattle.codec.proofs.runs.fill.Goals as goal
 
-pub loop-i-init : goal.loop-i-init
-loop-i-init g c = (omega arith, sym (over_none c.args.list.now c.args.from (omega arith)))
+-- how many places there are
+places : {X : Type 0} (xs : List X) (from count : ℕ) → from + count ≤ length xs → length (take ((from + count) - from) (drop from xs)) ≡ count
+places xs from count h =
+    let e : (from + count) - from ≡ count = omega arith in
+    length-take-le ((from + count) - from) (drop from xs) (omega (arith, length-drop from xs)) ∙ e
 
-pub slice_bounds-read-end : goal.slice_bounds-read-end
-slice_bounds-read-end g c =
+pub loop-place-init : goal.loop-place-init
+loop-place-init g c =
+    let z : 0 * g.R.Record.code.width ≡ 0 = omega arith in
+    (sym (ap (λ k. drop k c.args.bytes.now) z), refl)
+
+pub split_at-requires : goal.split_at-requires
+split_at-requires g c =
     let w = g.R.Record.code.width in
-    let e = ends c.loop-i.i c.args.count w c.loop-i-test.true in
-    let within : c.loop-i.at + c.width-width.result ≤ length c.args.bytes.now = omega (arith, c.loop-i.invariant.0) in
-    search rules
+    let n = places c.args.list.now c.args.from c.args.count c.requires.room in
+    let e = ends c.loop-place.place-index c.args.count w (omega arith) in
+    omega (arith, ap length c.loop-place.invariant.0, length-drop (c.loop-place.place-index * w) c.args.bytes.now)
 
-pub loop-i-preserved : goal.loop-i-preserved
-loop-i-preserved g c =
+pub loop-place-preserved : goal.loop-place-preserved
+loop-place-preserved g c =
     let code = g.R.Record.code in
-    let i = c.loop-i.i in
-    let size : (c.loop-i.at + c.width-width.result) - c.loop-i.at ≡ code.width = omega (arith, c.width-width.ensures) in (
-      omega (arith, next_at i code.width, c.loop-i.invariant.0, c.width-width.ensures),
-      fill_more code c.args.list.now c.loop-i.list c.args.from i c.loop-i.at _ c.args.bytes.now c.read.result (omega arith) c.loop-i.invariant.0 size c.loop-i.invariant.1 c.read.ensures,
+    let i = c.loop-place.place-index in
+    let rest = c.loop-place.invariant.0 in
+    let k = c.width-width.result in
+    let next : i * code.width + k ≡ (i + 1) * code.width = omega (arith, next_at i code.width, c.width-width.ensures) in (
+      c.split_at.ensures.back ∙ ap (drop k) rest ∙ drop-drop k (i * code.width) c.args.bytes.now ∙ ap (λ m. drop m c.args.bytes.now) next,
+      fill_more code _ c.loop-place.place-items i k c.args.bytes.now c.loop-place.rest.now c.read.result c.loop-place-test.true c.width-width.ensures rest c.loop-place.invariant.1 (c.read.ensures ∙ ap code.meaning c.split_at.ensures.front),
     )
+
+pub returns : goal.returns
+returns g c =
+    let code = g.R.Record.code in
+    let list = c.args.list.now in
+    let from = c.args.from in
+    let count = c.args.count in
+    let k = (from + count) - from in
+    let n = places list from count c.requires.room in
+    let i : c.loop-place.place-index ≡ count = omega arith in
+    let rs = records code c.loop-place.place-index c.args.bytes.now in
+    let size = records_length code c.loop-place.place-index c.args.bytes.now in
+    ap (put_mid from k list) (c.loop-place.invariant.1 ∙ over_all _ rs (omega arith))
+    ∙ part_over list from k rs (omega arith)
+    ∙ rw i

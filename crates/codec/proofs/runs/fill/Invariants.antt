@@ -1,9 +1,9 @@
-use Rattle.std.proofs.Common.{◌≡◌, ◌*◌}
-use Rattle.shelf_holdings.specs.Append.{over}
+use Rattle.std.proofs.Common.{◌≡◌, ◌*◌, drop}
+use Rattle.holdings.specs.Append.{over}
 use Rattle.codec_laws.specs.Lists.{records}
 use Rattle.codec.proofs.runs.fill.Given as goal
 
-abbrev pub invariant-loop-i : goal.invariant-loop-i
-invariant-loop-i g l =
+abbrev pub invariant-loop-place : goal.invariant-loop-place
+invariant-loop-place g l =
     let c = g.R.Record.code in
-    (l.at ≡ l.i * c.width) × (l.list ≡ over l.initial.list l.from (records c l.i l.bytes))
+    (l.rest ≡ drop (l.place-index * c.width) l.bytes) × (l.place-items ≡ over l.initial.place-items 0 (records c l.place-index l.bytes))

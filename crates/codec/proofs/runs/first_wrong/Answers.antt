@@ -18,7 +18,7 @@ slice_bounds-wrong-end g c =
 pub overflow_add-result : goal.overflow_add-result
 overflow_add-result g c =
     let e = ends c.loop-i.i c.args.count g.R.Record.code.width c.loop-i-test.true in
-    let p = g.R.Record.laws.inside _ c.in-Some.place (sym c.in-Some.ensures) in
+    let p = g.met.R.Record.laws.inside _ c.in-Some.place (sym c.in-Some.ensures) in
     let within : c.loop-i.at + c.in-Some.place < length c.args.file.now = omega arith in
     search rules
 

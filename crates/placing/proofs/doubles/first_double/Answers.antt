@@ -2,9 +2,9 @@ use Rattle.std.proofs.Common.{length, sym, subst, arith}
 use Rattle.table.specs.Table.{table_of}
 use Rattle.table.specs.Sound.{Sound}
 use Rattle.filter.specs.Meaning.{Equivalent}
-use Rattle.shelf_holdings.specs.Memory.{memory_of}
+use Rattle.holdings.specs.Memory.{memory_of}
 use Rattle.shelf_law.specs.Scratch.{scratch_of, Enough}
-use Rattle.shelf_law.proofs.Readable.{readable_fits, readable_sound}
+use Rattle.holdings.proofs.Readable.{readable_fits, readable_sound}
 use Rattle.placing.proofs.Turns.{lowest_here, none_more, none_all}
 use Rattle.placing.proofs.doubles.first_double.Goals as goal
 

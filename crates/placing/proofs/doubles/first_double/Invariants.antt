@@ -1,7 +1,7 @@
 use Rattle.std.proofs.Common.{ℕ, ◌<◌}
 use Rattle.table.specs.Table.{table_of}
 use Rattle.filter.specs.Meaning.{Equivalent}
-use Rattle.shelf_holdings.specs.Memory.{memory_of, holding}
+use Rattle.holdings.specs.Memory.{memory_of, holding}
 use Rattle.placing.proofs.doubles.first_double.Given as goal
 
 -- no holding before is equivalent

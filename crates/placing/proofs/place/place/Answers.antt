@@ -1,9 +1,10 @@
-use Rattle.std.proofs.Common.{length, arith}
+use Rattle.std.proofs.Common.{length, Err, sym, ap, ◌∙◌, subst, arith}
+use Rattle.std.proofs.lemmas.Result.{err_from_is_err_and}
 use Rattle.table.specs.Table.{table_of}
-use Rattle.shelf_holdings.specs.Memory.{memory_of}
+use Rattle.holdings.specs.Memory.{memory_of}
 use Rattle.shelf_law.specs.Scratch.{scratch_of}
-use Rattle.shelf_law.specs.Placing.{short_scratch, double}
-use Rattle.shelf_law.proofs.Readable.{readable_fits}
+use Rattle.shelf_law.specs.Placing.{Placing, short_scratch, double}
+use Rattle.holdings.proofs.Readable.{readable_fits}
 use Rattle.placing.proofs.Placements.{long_enough, placed_full, placed_held}
 use Rattle.placing.proofs.place.place.Goals as goal
 
@@ -30,14 +31,21 @@ append-requires g c = record {
   short = (omega (arith, c.requires.sound.few_states), omega (arith, c.requires.sound.few_rules), omega (arith, c.requires.sound.few_outputs));
 }
 
-pub returns-else-append : goal.returns-else-append
-returns-else-append g c =
+pub returns-in_err-append : goal.returns-in_err-append
+returns-in_err-append g c =
+    let m = g.A.Alphabet.model in
     let S = scratch_of (length c.args.steps.now) (length c.args.symbols.now) in
-    placed_full g.A.Alphabet.model S (memory_of c.args.shelf.now) (table_of c.args.draft.now) c.in_default.ensures c.in_default-first_double.ensures
-    c.append.result c.append.ensures.answer (memory_of c.append.new.self) c.append.ensures.memory c.if-append.false
+    let M = memory_of c.args.shelf.now in
+    let F = table_of c.args.draft.now in
+    let A = memory_of c.append.new.self in
+    let p = err_from_is_err_and c.from_residual.result c.from_residual.ensures.1 in
+    let placed = placed_full m S M F c.in_default.ensures c.in_default-first_double.ensures A c.append.ensures.memory _ (sym c.append.ensures.answer ∙ c.in_err-append.was) in
+    subst (λ r. Placing m S M F r A) (sym (p.1 ∙ ap Err p.2)) placed
 
-pub returns-then-append : goal.returns-then-append
-returns-then-append g c =
+pub returns : goal.returns
+returns g c =
+    let m = g.A.Alphabet.model in
     let S = scratch_of (length c.args.steps.now) (length c.args.symbols.now) in
-    placed_held g.A.Alphabet.model S (memory_of c.args.shelf.now) (table_of c.args.draft.now) c.in_default.ensures c.in_default-first_double.ensures
-    c.append.result c.append.ensures.answer (memory_of c.append.new.self) c.append.ensures.memory c.if-append.true
+    let M = memory_of c.args.shelf.now in
+    let F = table_of c.args.draft.now in
+    placed_held m S M F c.in_default.ensures c.in_default-first_double.ensures (memory_of c.append.new.self) c.append.ensures.memory _ (sym c.append.ensures.answer ∙ c.in_ok-append.was)

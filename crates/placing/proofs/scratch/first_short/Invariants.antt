@@ -1,6 +1,6 @@
 use Rattle.std.proofs.Common.{ℕ, ◌<◌}
 use Rattle.table.specs.Table.{table_of}
-use Rattle.shelf_holdings.specs.Memory.{memory_of, holding}
+use Rattle.holdings.specs.Memory.{memory_of, holding}
 use Rattle.shelf_law.specs.Scratch.{scratch_of, Short}
 use Rattle.placing.proofs.scratch.first_short.Given as goal
 

@@ -43,11 +43,3 @@ loop-side-preserved g c =
     let more = playing_more m F h L c.requires.tree c.requires.traced whole c.side_of-side.result.total x c.loop-side.out c.loop-side.invariant.1 some ((side_of h x).total - ((side_of h x).to - (side_of h x).from)) refl in
     let wrote = c.emit.ensures.output ∙ ap (λ (s : Side). put (s.total - (s.to - s.from)) (values_of m (terms_of F.outputs s) x.symbol) c.loop-side.out) y in
     (c.side_of-side-in-loop-side.ensures, subst (λ (o : List ℕ). Playing m F h L whole c.side_of-side.result.total (at L x.parent) o) (sym wrote) more)
-
-pub returns : goal.returns
-returns g c =
-    let none : (side_of c.args.hand c.loop-side.at).total ≡ 0 = omega (arith, c.loop-side-test.false, ap (λ (s : Side). s.total) c.loop-side.invariant.0) in
-    record {
-      count = ap (λ (s : Side). s.total) c.side_of-side.ensures;
-      output = playing_end g.A.Alphabet.model (table_of c.args.draft.now) c.args.hand c.args.steps.now _ _ c.loop-side.at c.loop-side.out c.loop-side.invariant.1 none;
-    }

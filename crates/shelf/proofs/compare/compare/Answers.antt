@@ -2,11 +2,11 @@ use Rattle.std.proofs.Common.{Err, sym, ap, ◌∙◌, subst, arith}
 use Rattle.std.proofs.lemmas.Result.{err_from_is_err_and}
 use Rattle.table.specs.Table.{table_of}
 use Rattle.table.specs.Sound.{Sound}
-use Rattle.shelf_holdings.specs.Memory.{memory_of, holding}
+use Rattle.holdings.specs.Memory.{memory_of, holding}
 use Rattle.shelf_law.specs.Comparing.{Compared, Compares, unreadable, no_first, no_second, compared}
 use Rattle.shelf_law.specs.Holdings.{numbered}
 use Rattle.shelf_law.proofs.Laws.{history_told}
-use Rattle.shelf_law.proofs.Readable.{readable_fits, readable_sound}
+use Rattle.holdings.proofs.Readable.{readable_fits, readable_sound}
 use Rattle.shelf.specs.Lent.{lent}
 use Rattle.shelf.proofs.Refusals.{placed_has, placeless_none}
 use Rattle.shelf.proofs.compare.compare.Goals as goal

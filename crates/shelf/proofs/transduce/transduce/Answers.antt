@@ -4,9 +4,9 @@ use Rattle.table.specs.Table.{table_of}
 use Rattle.table.specs.Results.{map_err}
 use Rattle.table.specs.Sound.{Sound}
 use Rattle.answers.specs.Reports.{transducing_fault}
-use Rattle.shelf_holdings.specs.Memory.{memory_of}
+use Rattle.holdings.specs.Memory.{memory_of}
 use Rattle.shelf_law.specs.Transducing.{TransducesAt, unreadable, no_holding}
-use Rattle.shelf_law.proofs.Readable.{readable_fits, readable_sound}
+use Rattle.holdings.proofs.Readable.{readable_fits, readable_sound}
 use Rattle.shelf.proofs.Refusals.{placed_has, placeless_none}
 use Rattle.shelf.proofs.Outcomes.{holding_transduces}
 use Rattle.shelf.proofs.transduce.transduce.Goals as goal

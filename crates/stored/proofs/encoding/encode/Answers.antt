@@ -2,10 +2,10 @@ use Rattle.std.proofs.Common.{◌≡◌, ℕ, ◌+◌, ◌-◌, ◌*◌, ◌≤�
 use Rattle.std.specs.List.{flat_map}
 use Rattle.std.proofs.lemmas.List.{length-take-le}
 use Rattle.table.specs.Table.{table_of}
-use Rattle.shelf_holdings.specs.Memory.{memory_of, in_use}
-use Rattle.shelf_holdings.specs.Check.{checked_shelf}
-use Rattle.shelf_holdings.specs.Append.{over}
-use Rattle.shelf_holdings.proofs.Parts.{fitting}
+use Rattle.holdings.specs.Memory.{memory_of, in_use}
+use Rattle.holdings.specs.Check.{checked_shelf}
+use Rattle.holdings.specs.Append.{over}
+use Rattle.holdings.proofs.Parts.{fitting}
 use Rattle.codec_laws.specs.Entries.{entry_code}
 use Rattle.codec_laws.specs.Lists.{image_all}
 use Rattle.codec_laws.proofs.Overs.{over_none}
@@ -21,23 +21,23 @@ pub size_of-size-requires : goal.size_of-size-requires
 size_of-size-requires g c =
     let m = g.A.Alphabet.model in
     let M = memory_of c.args.shelf.now in
-    let sound : checked_shelf m M ≡ Ok tt = sym c.check.ensures ∙ c.in_default.is in
+    let sound : checked_shelf m M ≡ Ok tt = sym c.check.ensures ∙ c.in_ok-check.was in
     let s = small m M sound in
     record { holdings = s.holdings; states = s.states; rules = s.rules; outputs = s.outputs }
 
 pub returns-then-out-size : goal.returns-then-out-size
 returns-then-out-size g c =
     let m = g.A.Alphabet.model in
-    let guard = g.A.Guard.GuardRecord.code in
+    let guard = g.A.Guard.Record.code in
     let term = g.A.Term.Record.code in
-    let guards = g.A.Guard.GuardRecord.laws in
-    let wide = g.A.Guard.GuardRecord.wide in
-    let free = g.A.Guard.GuardRecord.free in
-    let terms = g.A.Term.Record.laws in
+    let guards = g.met.A.Guard.Record.laws in
+    let wide = g.met.A.Guard.GuardRecord.wide in
+    let free = g.met.A.Guard.GuardRecord.free in
+    let terms = g.met.A.Term.Record.laws in
     let k = g.A.Stored.number in
     let M = memory_of c.args.shelf.now in
     let five = c.byte-alphabet.ensures.term_width in
-    let sound : checked_shelf m M ≡ Ok tt = sym c.check.ensures ∙ c.in_default.is in
+    let sound : checked_shelf m M ≡ Ok tt = sym c.check.ensures ∙ c.in_ok-check.was in
     let ok = fits_ok m M sound in
     let size = c.size_of-size.ensures ∙ sym (shelf_size guard term guards wide free terms five M ok k) in
     record { answer = sym (encoded_short m guard term k M sound (length c.args.out.now) c.size_of-size.result size c.if-out-size.true); bytes = refl; back = λ n e. absurd (grind arith); again = λ n file e. absurd (grind arith); keeps_on_refusal = λ f e. refl }
@@ -45,16 +45,16 @@ returns-then-out-size g c =
 pub loop-i-init : goal.loop-i-init
 loop-i-init g c =
     let m = g.A.Alphabet.model in
-    let guard = g.A.Guard.GuardRecord.code in
+    let guard = g.A.Guard.Record.code in
     let term = g.A.Term.Record.code in
-    let guards = g.A.Guard.GuardRecord.laws in
-    let wide = g.A.Guard.GuardRecord.wide in
-    let free = g.A.Guard.GuardRecord.free in
-    let terms = g.A.Term.Record.laws in
+    let guards = g.met.A.Guard.Record.laws in
+    let wide = g.met.A.Guard.GuardRecord.wide in
+    let free = g.met.A.Guard.GuardRecord.free in
+    let terms = g.met.A.Term.Record.laws in
     let k = g.A.Stored.number in
     let M = memory_of c.args.shelf.now in
     let five = c.byte-alphabet.ensures.term_width in
-    let sound : checked_shelf m M ≡ Ok tt = sym c.check.ensures ∙ c.in_default.is in
+    let sound : checked_shelf m M ≡ Ok tt = sym c.check.ensures ∙ c.in_ok-check.was in
     let ok = fits_ok m M sound in
     let z : M.head.holdings - 0 ≡ M.head.holdings = omega arith in
     let front : c.put_front-at.result ≡ 2 + M.head.holdings * 6
@@ -65,16 +65,16 @@ loop-i-init g c =
 pub put_body-at-requires : goal.put_body-at-requires
 put_body-at-requires g c =
     let m = g.A.Alphabet.model in
-    let guard = g.A.Guard.GuardRecord.code in
+    let guard = g.A.Guard.Record.code in
     let term = g.A.Term.Record.code in
-    let guards = g.A.Guard.GuardRecord.laws in
-    let wide = g.A.Guard.GuardRecord.wide in
-    let free = g.A.Guard.GuardRecord.free in
-    let terms = g.A.Term.Record.laws in
+    let guards = g.met.A.Guard.Record.laws in
+    let wide = g.met.A.Guard.GuardRecord.wide in
+    let free = g.met.A.Guard.GuardRecord.free in
+    let terms = g.met.A.Term.Record.laws in
     let k = g.A.Stored.number in
     let M = memory_of c.args.shelf.now in
     let five = c.byte-alphabet.ensures.term_width in
-    let sound : checked_shelf m M ≡ Ok tt = sym c.check.ensures ∙ c.in_default.is in
+    let sound : checked_shelf m M ≡ Ok tt = sym c.check.ensures ∙ c.in_ok-check.was in
     let ok = fits_ok m M sound in
     let size = c.size_of-size.ensures ∙ sym (shelf_size guard term guards wide free terms five M ok k) in
     let z : M.head.holdings - 0 ≡ M.head.holdings = omega arith in
@@ -86,16 +86,16 @@ put_body-at-requires g c =
 pub loop-i-preserved : goal.loop-i-preserved
 loop-i-preserved g c =
     let m = g.A.Alphabet.model in
-    let guard = g.A.Guard.GuardRecord.code in
+    let guard = g.A.Guard.Record.code in
     let term = g.A.Term.Record.code in
-    let guards = g.A.Guard.GuardRecord.laws in
-    let wide = g.A.Guard.GuardRecord.wide in
-    let free = g.A.Guard.GuardRecord.free in
-    let terms = g.A.Term.Record.laws in
+    let guards = g.met.A.Guard.Record.laws in
+    let wide = g.met.A.Guard.GuardRecord.wide in
+    let free = g.met.A.Guard.GuardRecord.free in
+    let terms = g.met.A.Term.Record.laws in
     let k = g.A.Stored.number in
     let M = memory_of c.args.shelf.now in
     let five = c.byte-alphabet.ensures.term_width in
-    let sound : checked_shelf m M ≡ Ok tt = sym c.check.ensures ∙ c.in_default.is in
+    let sound : checked_shelf m M ≡ Ok tt = sym c.check.ensures ∙ c.in_ok-check.was in
     let ok = fits_ok m M sound in
     let z : M.head.holdings - 0 ≡ M.head.holdings = omega arith in
     let front : c.put_front-at.result ≡ 2 + M.head.holdings * 6
@@ -108,16 +108,16 @@ loop-i-preserved g c =
 pub returns : goal.returns
 returns g c =
     let m = g.A.Alphabet.model in
-    let guard = g.A.Guard.GuardRecord.code in
+    let guard = g.A.Guard.Record.code in
     let term = g.A.Term.Record.code in
-    let guards = g.A.Guard.GuardRecord.laws in
-    let wide = g.A.Guard.GuardRecord.wide in
-    let free = g.A.Guard.GuardRecord.free in
-    let terms = g.A.Term.Record.laws in
+    let guards = g.met.A.Guard.Record.laws in
+    let wide = g.met.A.Guard.GuardRecord.wide in
+    let free = g.met.A.Guard.GuardRecord.free in
+    let terms = g.met.A.Term.Record.laws in
     let k = g.A.Stored.number in
     let M = memory_of c.args.shelf.now in
     let five = c.byte-alphabet.ensures.term_width in
-    let sound : checked_shelf m M ≡ Ok tt = sym c.check.ensures ∙ c.in_default.is in
+    let sound : checked_shelf m M ≡ Ok tt = sym c.check.ensures ∙ c.in_ok-check.was in
     let ok = fits_ok m M sound in
     let z : M.head.holdings - 0 ≡ M.head.holdings = omega arith in
     let front : c.put_front-at.result ≡ 2 + M.head.holdings * 6

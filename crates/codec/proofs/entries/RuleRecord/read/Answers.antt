@@ -5,5 +5,5 @@ use Rattle.codec.proofs.entries.RuleRecord.read.Goals as goal
 pub returns : goal.returns
 returns g c =
     let bs = c.args.bytes.now in
-    let guard : c.read.result ≡ g.G.GuardRecord.code.meaning (drop 6 bs) = c.read.ensures ∙ ap g.G.GuardRecord.code.meaning (take_rest bs 6) in
+    let guard : c.read.result ≡ g.G.Record.code.meaning (drop 6 bs) = c.read.ensures ∙ ap g.G.Record.code.meaning (take_rest bs 6) in
     cc

@@ -11,14 +11,14 @@ use Rattle.table.specs.Results.{map_err}
 use Rattle.table.specs.Table.{Table}
 use Rattle.table.specs.Sound.{Sound}
 use Rattle.table.proofs.Soundness.{sound_from_checked}
-use Rattle.shelf_holdings.specs.declared.memory.Entry.{Entry}
+use Rattle.holdings.specs.declared.memory.Entry.{Entry}
 use Rattle.answers.specs.declared.fault.Fault.{Fault}
 use Rattle.answers.specs.declared.fault.Fault.TheVariants.{Misfit, Unsound}
-use Rattle.shelf_holdings.specs.Memory.{Memory, in_use, fits, holding, opened}
-use Rattle.shelf_holdings.specs.Check.{next, check_from, checked_shelf}
-use Rattle.shelf_holdings.specs.Append.{room_for, appended, Adds}
-use Rattle.shelf_holdings.proofs.Parts.{fitting}
-use Rattle.shelf_holdings.proofs.Appends.{adds}
+use Rattle.holdings.specs.Memory.{Memory, in_use, fits, holding, opened}
+use Rattle.holdings.specs.Check.{next, check_from, checked_shelf}
+use Rattle.holdings.specs.Append.{room_for, appended, Adds}
+use Rattle.holdings.proofs.Parts.{fitting}
+use Rattle.holdings.proofs.Appends.{adds}
 
 at_or_above : (i k : ℕ) → i ≤ k → (i ≡ k) ⊎ (i + 1 ≤ k)
 at_or_above i k low = grind arith
