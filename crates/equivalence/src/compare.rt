@@ -31,18 +31,14 @@ fn start(frame: Frame, queue: &mut Queue<'_, Step>, cells: &mut [u32])
 {
     let side = Side {
         state: Some(0),
-        from: 0,
-        to: 0,
-        total: 0,
+        ..Side::default()
     };
     let step = Step {
-        parent: 0,
-        symbol: 0,
         left: side,
         right: side,
-        again: false,
+        ..Step::default()
     };
-    let place = place_of(frame.left, frame.right, side.state, side.state, false);
+    let place = place_of(frame.left, frame.right, side.state, side.state, step.visit);
     if let Ok(_) = queue.push(step) {
         cells[place] = 0;
     }

@@ -6,7 +6,6 @@ ghost use Rattle.std.specs.Prelude.{◌≡◌};
 
 use alphabet::Alphabet;
 use replay::longest;
-use replay::sizes::larger;
 use steps::steps_needed;
 use table::{Draft, final_total};
 
@@ -31,7 +30,7 @@ pub fn frame_of<A: Alphabet>(left: &Draft<'_, A>, right: &Draft<'_, A>) -> Frame
 {
     let p = left.states.len();
     let q = right.states.len();
-    let width = larger(1, larger(longest(left), longest(right)));
+    let width = longest(left).max(longest(right)).max(1);
     Frame {
         left: p,
         right: q,

@@ -10,7 +10,6 @@ use crate::filing::file_bodies;
 use crate::pair_texts::tell_pairs;
 use crate::report::{Pair, Verdict};
 use alphabet::Alphabet;
-use comparing::BLANK;
 use holdings::Shelf;
 use shelf::open::open;
 use std::alloc::{AllocError, Global};
@@ -77,7 +76,7 @@ pub fn shelve<A: Alphabet>(
     let mut states = Vec::from_slice(heap, &*bodies.states)?;
     let mut rules = Vec::from_slice(heap, &*bodies.rules)?;
     let mut outputs = Vec::from_slice(heap, &*bodies.outputs)?;
-    let mut slots = vec![in heap; BLANK; steps]?;
+    let mut slots = vec![in heap; Step::default(); steps]?;
     let mut scratch = vec![in heap; 0u32; symbols]?;
     let mut witness = vec![in heap; 0u32; steps]?;
     let mut shelf = open(

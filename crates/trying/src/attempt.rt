@@ -15,17 +15,14 @@ use judging::frame::Frame;
 use judging::judge::judge;
 use moves::onward;
 use queue::Queue;
-use steps::{Step, place_of};
+use steps::{Step, Visit, place_of};
 use table::Draft;
 
 // Whether no side has a state.
 fn both_dead(left: Option<u16>, right: Option<u16>) -> bool
     ensures { result ≡ both_dead_lem left right }
 {
-    match (left, right) {
-        (None, None) => true,
-        _ => false,
-    }
+    left.is_none() && right.is_none()
 }
 
 // The step that goes on from one of the steps by a symbol.
@@ -55,7 +52,7 @@ fn extension<A: Alphabet>(
         symbol,
         left: onward(left, frame.left_first, step.left, symbol),
         right: onward(right, frame.right_first, step.right, symbol),
-        again: false,
+        visit: Visit::First,
     }
 }
 
@@ -86,7 +83,7 @@ pub fn attempt<A: Alphabet>(
     if both_dead(next.left.state, next.right.state) {
         return;
     }
-    let Some(again) = judge(left, right, frame, queue.entries(), cells, next, outputs) else {
+    let Some(visit) = judge(left, right, frame, queue.entries(), cells, next, outputs) else {
         return;
     };
     let place = place_of(
@@ -94,9 +91,9 @@ pub fn attempt<A: Alphabet>(
         frame.right,
         next.left.state,
         next.right.state,
-        again,
+        visit,
     );
-    if let Ok(made) = queue.push(Step { again, ..next }) {
+    if let Ok(made) = queue.push(Step { visit, ..next }) {
         cells[place] = made as u32;
     }
 }

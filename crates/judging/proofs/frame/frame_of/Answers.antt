@@ -9,7 +9,7 @@ overflow_mul-result g c =
     let a = longest_few g.A.Alphabet.model (table_of c.args.left.now) c.requires.left in
     let b = longest_few g.A.Alphabet.model (table_of c.args.right.now) c.requires.right in
     let few : c.steps_needed.result + 1 ≤ 8321 = omega (arith, c.steps_needed.ensures, product_most (length c.args.left.now.states.now) (length c.args.right.now.states.now) c.requires.left.few_states c.requires.right.few_states) in
-    let narrow : c.larger-width.result ≤ 32 = omega arith in
+    let narrow : c.max-width.result ≤ 32 = omega arith in
     omega (arith, mul-le-mul few narrow)
 
 pub returns : goal.returns
@@ -28,7 +28,7 @@ returns g c =
         most = omega arith;
         wide_left = omega arith;
         wide_right = omega arith;
-        room = ap (λ n. (n + 1) * c.larger-width.result) c.steps_needed.ensures;
+        room = ap (λ n. (n + 1) * c.max-width.result) c.steps_needed.ensures;
       };
       width = omega arith;
     }

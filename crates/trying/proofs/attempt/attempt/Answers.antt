@@ -84,8 +84,8 @@ overflow_cast-cells g c =
     let D = c.requires.going in
     let x = c.extension-next.result in
     let E = subst (λ (l : List Step). Extends m F H p q w l x) c.entries.ensures c.extension-next.ensures.extends in
-    let J = subst (λ (l : List Step). Judged m F H p q w l x (Some c.in-Some.again)) c.entries-2.ensures c.in-Some.ensures in
-    let h = slot_left m F H p q w L C c.args.number c.args.symbol D x c.extension-next.ensures.parent c.extension-next.ensures.symbol E c.in-Some.again J c.requires.cells in
+    let J = subst (λ (l : List Step). Judged m F H p q w l x (Some c.in-Some.visit)) c.entries-2.ensures c.in-Some.ensures in
+    let h = slot_left m F H p q w L C c.args.number c.args.symbol D x c.extension-next.ensures.parent c.extension-next.ensures.symbol E c.in-Some.visit J c.requires.cells in
     let n = number_given (length L) (room c.args.queue.now) c.in-Ok.made _ (omega (arith, c.requires.slots)) c.in-Ok.ensures.answer in
     omega (arith, product_most p q c.requires.framed.few_left c.requires.framed.few_right)
 
@@ -102,8 +102,8 @@ offset_bounds-cells-place g c =
     let D = c.requires.going in
     let x = c.extension-next.result in
     let E = subst (λ (l : List Step). Extends m F H p q w l x) c.entries.ensures c.extension-next.ensures.extends in
-    let J = subst (λ (l : List Step). Judged m F H p q w l x (Some c.in-Some.again)) c.entries-2.ensures c.in-Some.ensures in
-    let h = place_within m F H p q w L C c.args.number c.args.symbol D x c.extension-next.ensures.parent c.extension-next.ensures.symbol E c.in-Some.again J c.requires.cells in
+    let J = subst (λ (l : List Step). Judged m F H p q w l x (Some c.in-Some.visit)) c.entries-2.ensures c.in-Some.ensures in
+    let h = place_within m F H p q w L C c.args.number c.args.symbol D x c.extension-next.ensures.parent c.extension-next.ensures.symbol E c.in-Some.visit J c.requires.cells in
     let k : c.place_of-place.result < length C = omega (arith, c.place_of-place.ensures) in search rules
 
 pub bounds-cells-place : goal.bounds-cells-place
@@ -119,8 +119,8 @@ bounds-cells-place g c =
     let D = c.requires.going in
     let x = c.extension-next.result in
     let E = subst (λ (l : List Step). Extends m F H p q w l x) c.entries.ensures c.extension-next.ensures.extends in
-    let J = subst (λ (l : List Step). Judged m F H p q w l x (Some c.in-Some.again)) c.entries-2.ensures c.in-Some.ensures in
-    let h = place_within m F H p q w L C c.args.number c.args.symbol D x c.extension-next.ensures.parent c.extension-next.ensures.symbol E c.in-Some.again J c.requires.cells in
+    let J = subst (λ (l : List Step). Judged m F H p q w l x (Some c.in-Some.visit)) c.entries-2.ensures c.in-Some.ensures in
+    let h = place_within m F H p q w L C c.args.number c.args.symbol D x c.extension-next.ensures.parent c.extension-next.ensures.symbol E c.in-Some.visit J c.requires.cells in
     let k : c.place_of-place.result < length C = omega (arith, c.place_of-place.ensures) in search rules
 
 pub returns-in-Ok : goal.returns-in-Ok
@@ -136,16 +136,16 @@ returns-in-Ok g c =
     let D = c.requires.going in
     let x = c.extension-next.result in
     let E = subst (λ (l : List Step). Extends m F H p q w l x) c.entries.ensures c.extension-next.ensures.extends in
-    let J = subst (λ (l : List Step). Judged m F H p q w l x (Some c.in-Some.again)) c.entries-2.ensures c.in-Some.ensures in
-    let h = slot_left m F H p q w L C c.args.number c.args.symbol D x c.extension-next.ensures.parent c.extension-next.ensures.symbol E c.in-Some.again J c.requires.cells in
+    let J = subst (λ (l : List Step). Judged m F H p q w l x (Some c.in-Some.visit)) c.entries-2.ensures c.in-Some.ensures in
+    let h = slot_left m F H p q w L C c.args.number c.args.symbol D x c.extension-next.ensures.parent c.extension-next.ensures.symbol E c.in-Some.visit J c.requires.cells in
     let n = number_given (length L) (room c.args.queue.now) c.in-Ok.made _ (omega (arith, c.requires.slots)) c.in-Ok.ensures.answer in
     let e = sym c.in-Ok.ensures.entries in
     let r = c.in-Ok.ensures in
-    let made = made_step m F H p q w L C c.args.number c.args.symbol D x c.extension-next.ensures.parent c.extension-next.ensures.symbol E c.in-Some.again J c.requires.cells in
+    let made = made_step m F H p q w L C c.args.number c.args.symbol D x c.extension-next.ensures.parent c.extension-next.ensures.symbol E c.in-Some.visit J c.requires.cells in
     let cells = ap (λ i. set C i (length L)) (sym c.place_of-place.ensures) ∙ ap (set C c.place_of-place.result) (sym n) in
     record {
-      going = subst (λ (b : List ℕ). Going m F H p q w (entries c.push.new.self) b c.args.number (c.args.symbol + 1)) cells (subst (λ (l : List Step). Going m F H p q w l (set C (place_of p q x.left.state x.right.state c.in-Some.again) (length L)) c.args.number (c.args.symbol + 1)) e made);
-      step = ap (λ (l : List Step). at l c.args.number) (sym e) ∙ step_stays m F H p q w L C c.args.number c.args.symbol D x c.extension-next.ensures.parent c.extension-next.ensures.symbol E c.in-Some.again J c.requires.cells;
+      going = subst (λ (b : List ℕ). Going m F H p q w (entries c.push.new.self) b c.args.number (c.args.symbol + 1)) cells (subst (λ (l : List Step). Going m F H p q w l (set C (place_of p q x.left.state x.right.state c.in-Some.visit) (length L)) c.args.number (c.args.symbol + 1)) e made);
+      step = ap (λ (l : List Step). at l c.args.number) (sym e) ∙ step_stays m F H p q w L C c.args.number c.args.symbol D x c.extension-next.ensures.parent c.extension-next.ensures.symbol E c.in-Some.visit J c.requires.cells;
       taken = r.taken;
       slots = r.room;
     }
@@ -163,6 +163,6 @@ returns-in_default-push g c =
     let D = c.requires.going in
     let x = c.extension-next.result in
     let E = subst (λ (l : List Step). Extends m F H p q w l x) c.entries.ensures c.extension-next.ensures.extends in
-    let J = subst (λ (l : List Step). Judged m F H p q w l x (Some c.in-Some.again)) c.entries-2.ensures c.in-Some.ensures in
-    let h = slot_left m F H p q w L C c.args.number c.args.symbol D x c.extension-next.ensures.parent c.extension-next.ensures.symbol E c.in-Some.again J c.requires.cells in
+    let J = subst (λ (l : List Step). Judged m F H p q w l x (Some c.in-Some.visit)) c.entries-2.ensures c.in-Some.ensures in
+    let h = slot_left m F H p q w L C c.args.number c.args.symbol D x c.extension-next.ensures.parent c.extension-next.ensures.symbol E c.in-Some.visit J c.requires.cells in
     absurd (number_refused (length L) (room c.args.queue.now) c.in_default-push.field-0 _ (omega (arith, c.requires.slots)) c.in_default-push.ensures.answer)
