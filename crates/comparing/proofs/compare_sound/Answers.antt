@@ -11,8 +11,8 @@ use Rattle.comparing.proofs.compare_sound.Goals as goal
 pub returns : goal.returns
 returns g c =
     let m = g.A.Alphabet.model in
-    let F = table_of c.args.first.now in
-    let H = table_of c.args.second.now in
+    let F = table_of c.args.first.now.draft in
+    let H = table_of c.args.second.now.draft in
     let L = entries c.compare.new.queue in
     let told = subst (λ r. Decided m F H (text_in L r)) c.in-Some.is c.in_ok-answer.ensures.decides in
     let w = c.as_mut_slice-3.result.now in
