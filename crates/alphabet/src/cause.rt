@@ -6,13 +6,13 @@ ghost use Rattle.alphabet.specs.Causes.{cause_number};
 #[derive(Clone, Copy, Debug, PartialEq)]
 pub enum Cause {
     // The guard holds no symbol.
-    NoSymbols,
+    NoSymbols = 1,
     // The guard holds a number that is no symbol.
-    BeyondSize,
+    BeyondSize = 2,
     // A number of the term lies outside its bounds.
-    OutOfBounds,
+    OutOfBounds = 3,
     // The term is sound, but has no value at some symbol of its guard.
-    NotSuiting,
+    NotSuiting = 4,
 }
 
 impl Cause {
@@ -20,11 +20,6 @@ impl Cause {
     pub fn number(self) -> u8
         ensures { result ≡ cause_number self }
     {
-        match self {
-            Cause::NoSymbols => 1,
-            Cause::BeyondSize => 2,
-            Cause::OutOfBounds => 3,
-            Cause::NotSuiting => 4,
-        }
+        self as u8
     }
 }

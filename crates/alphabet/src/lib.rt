@@ -90,12 +90,8 @@ pub fn least_shared<A: Alphabet>(left: A::Guard, right: A::Guard) -> Option<u32>
 {
     let mut from = 0;
     loop {
-        let Some(low) = A::first_inside(left, from) else {
-            return None;
-        };
-        let Some(high) = A::first_inside(right, low) else {
-            return None;
-        };
+        let low = A::first_inside(left, from)?;
+        let high = A::first_inside(right, low)?;
         if high == low {
             return Some(low);
         }

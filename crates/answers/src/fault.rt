@@ -1,8 +1,6 @@
 // The faults of a shelf, each with the fault below it whole.
 ghost use Rattle.std.specs.Prelude.{◌≡◌};
-ghost use Rattle.table.specs.Results.{map_err};
-ghost use Rattle.table.specs.declared.fault.TableFault.{TableFault as Inner};
-ghost use Rattle.answers.specs.declared.fault.Fault.TheVariants.{Unsound, Draft};
+ghost use Rattle.answers.specs.declared.fault.Fault.TheVariants.{Draft};
 ghost use Rattle.answers.specs.Reports.{plain_report, report_of, transducing_fault};
 
 use alphabet::Cause;
@@ -83,21 +81,6 @@ impl Fault {
     }
 }
 
-// A fault of a table at a holding.
-#[derive(Clone, Copy)]
-pub struct AtHolding {
-    pub holding: usize,
-    pub fault: TableFault,
-}
-
-impl From<AtHolding> for Fault {
-    ghost from_gives = { λ a r. r ≡ Unsound a.holding a.fault };
-
-    fn from(at: AtHolding) -> Fault {
-        Fault::Unsound(at.holding, at.fault)
-    }
-}
-
 impl From<TableFault> for Fault {
     ghost from_gives = { λ f r. r ≡ Draft f };
 
@@ -115,15 +98,5 @@ impl From<TransduceFault> for Fault {
             TransduceFault::LongText => Fault::LongText,
             TransduceFault::ShortOutput(needed) => Fault::TooShort(needed),
         }
-    }
-}
-
-// The answer about a table, with the holding's number beside a fault.
-pub fn at_holding(holding: usize, answer: Result<(), TableFault>) -> Result<(), AtHolding>
-    ensures { result ≡ map_err (λ (f : Inner). record { holding = holding; fault = f }) answer }
-{
-    match answer {
-        Ok(()) => Ok(()),
-        Err(fault) => Err(AtHolding { holding, fault }),
     }
 }

@@ -5,4 +5,4 @@ pub mod comparison;
 pub mod fault;
 
 pub use comparison::Comparison;
-pub use fault::{Fault, Report, at_holding};
+pub use fault::{Fault, Report};

@@ -6,14 +6,13 @@
 ghost use Rattle.std.specs.Prelude.{◌≡◌, ◌&&◌};
 ghost use Rattle.alphabet.specs.Questions.{LeastFrom};
 ghost use Rattle.table.specs.Table.{table_of};
-ghost use Rattle.table.specs.Sound.{Sound};
 ghost use Rattle.filter.specs.Machines.{machine_of};
-ghost use Rattle.classes.specs.Runs.{rule_at_lem, same_rule_of, lower_of, holds_any, changed, thrice, held, over, worth};
+ghost use Rattle.classes.specs.Runs.{rule_at_lem, lower_of, holds_any, changed, thrice, held, over, worth};
 ghost use Rattle.classes.specs.Guided.{Guided, Below};
 
 use alphabet::Alphabet;
 use filter::walk::find;
-use table::{Draft, final_total};
+use table::{Filter, final_total};
 
 // The lower of two numbers, where there are any.
 fn lower(one: Option<u32>, other: Option<u32>) -> Option<u32>
@@ -21,47 +20,25 @@ fn lower(one: Option<u32>, other: Option<u32>) -> Option<u32>
 {
     match (one, other) {
         (Some(a), Some(b)) => Some(a.min(b)),
-        (Some(a), None) => Some(a),
-        (None, _) => other,
-    }
-}
-
-// Whether two answers name the same rule, or both none.
-fn same_rule(one: Option<usize>, other: Option<usize>) -> bool
-    ensures { result ≡ same_rule_of one other }
-{
-    match (one, other) {
-        (Some(a), Some(b)) => a == b,
-        (None, None) => true,
-        _ => false,
+        _ => one.or(other),
     }
 }
 
 // The number of the rule by which a side moves on a symbol, or none.
-fn rule_at<A: Alphabet>(draft: &Draft<'_, A>, state: Option<u16>, symbol: u32) -> Option<usize>
-    requires sound { Sound A.model (table_of draft.now) }
-    ensures { result ≡ rule_at_lem A.model (table_of draft.now) state symbol }
+fn rule_at<A: Alphabet>(filter: &Filter<'_, A>, state: Option<u16>, symbol: u32) -> Option<usize>
+    ensures { result ≡ rule_at_lem A.model (table_of filter.now.draft) state symbol }
 {
-    let Some(state) = state else {
-        return None;
-    };
-    let first = final_total(draft.states);
-    match find(draft, first, state, symbol) {
-        Some(found) => Some(found.rule),
-        None => None,
-    }
+    let first = final_total(filter.draft.states);
+    find(filter, first, state?, symbol).map(|found| found.rule)
 }
 
 // The least symbol at or after a number that a rule of the side holds, or none.
-fn first_held<A: Alphabet>(draft: &Draft<'_, A>, state: Option<u16>, from: u32) -> Option<u32>
-    requires sound { Sound A.model (table_of draft.now) }
-    ensures { LeastFrom (holds_any (rule_at_lem A.model (table_of draft.now) state)) from result }
+fn first_held<A: Alphabet>(filter: &Filter<'_, A>, state: Option<u16>, from: u32) -> Option<u32>
+    ensures { LeastFrom (holds_any (rule_at_lem A.model (table_of filter.now.draft) state)) from result }
 {
-    let Some(state) = state else {
-        return None;
-    };
+    let state = state?;
     let mut first = None;
-    for rule in draft.rules {
+    for rule in filter.draft.rules {
         if rule.state == state {
             first = lower(first, A::first_inside(rule.guard, from));
         }
@@ -70,27 +47,24 @@ fn first_held<A: Alphabet>(draft: &Draft<'_, A>, state: Option<u16>, from: u32) 
 }
 
 // The least number behind a symbol at which the side has another rule than at the symbol, or none.
-fn rule_end<A: Alphabet>(draft: &Draft<'_, A>, state: Option<u16>, symbol: u32) -> Option<u32>
-    requires sound { Sound A.model (table_of draft.now) }
-    ensures { LeastFrom (changed (rule_at_lem A.model (table_of draft.now) state) symbol) symbol result }
+fn rule_end<A: Alphabet>(filter: &Filter<'_, A>, state: Option<u16>, symbol: u32) -> Option<u32>
+    ensures { LeastFrom (changed (rule_at_lem A.model (table_of filter.now.draft) state) symbol) symbol result }
 {
-    match rule_at(draft, state, symbol) {
-        Some(rule) => Some(A::first_outside(draft.rules[rule].guard, symbol)),
-        None => first_held(draft, state, symbol),
+    match rule_at(filter, state, symbol) {
+        Some(rule) => Some(A::first_outside(filter.draft.rules[rule].guard, symbol)),
+        None => first_held(filter, state, symbol),
     }
 }
 
 // The least symbol at or after a number that a rule of either side holds, or none.
 fn first_of_either<A: Alphabet>(
-    left: &Draft<'_, A>,
-    right: &Draft<'_, A>,
+    left: &Filter<'_, A>,
+    right: &Filter<'_, A>,
     left_state: Option<u16>,
     right_state: Option<u16>,
     from: u32,
 ) -> Option<u32>
-    requires left { Sound A.model (table_of left.now) }
-    requires right { Sound A.model (table_of right.now) }
-    ensures { LeastFrom (held (rule_at_lem A.model (table_of left.now) left_state) (rule_at_lem A.model (table_of right.now) right_state)) from result }
+    ensures { LeastFrom (held (rule_at_lem A.model (table_of left.now.draft) left_state) (rule_at_lem A.model (table_of right.now.draft) right_state)) from result }
 {
     lower(
         first_held(left, left_state, from),
@@ -100,15 +74,13 @@ fn first_of_either<A: Alphabet>(
 
 // The end of a symbol's run: the least number behind it at which a side has another rule, or none.
 fn run_end<A: Alphabet>(
-    left: &Draft<'_, A>,
-    right: &Draft<'_, A>,
+    left: &Filter<'_, A>,
+    right: &Filter<'_, A>,
     left_state: Option<u16>,
     right_state: Option<u16>,
     symbol: u32,
 ) -> Option<u32>
-    requires left { Sound A.model (table_of left.now) }
-    requires right { Sound A.model (table_of right.now) }
-    ensures { LeastFrom (over (rule_at_lem A.model (table_of left.now) left_state) (rule_at_lem A.model (table_of right.now) right_state) symbol) symbol result }
+    ensures { LeastFrom (over (rule_at_lem A.model (table_of left.now.draft) left_state) (rule_at_lem A.model (table_of right.now.draft) right_state) symbol) symbol result }
 {
     lower(
         rule_end(left, left_state, symbol),
@@ -117,27 +89,24 @@ fn run_end<A: Alphabet>(
 }
 
 // Whether a side has the same rule at a symbol and at the two before it.
-fn rule_repeats<A: Alphabet>(draft: &Draft<'_, A>, state: Option<u16>, symbol: u32) -> bool
-    requires sound { Sound A.model (table_of draft.now) }
-    ensures { result ≡ thrice (rule_at_lem A.model (table_of draft.now) state) symbol }
+fn rule_repeats<A: Alphabet>(filter: &Filter<'_, A>, state: Option<u16>, symbol: u32) -> bool
+    ensures { result ≡ thrice (rule_at_lem A.model (table_of filter.now.draft) state) symbol }
 {
-    let rule = rule_at(draft, state, symbol);
+    let rule = rule_at(filter, state, symbol);
     symbol >= 2
-        && same_rule(rule_at(draft, state, symbol - 1), rule)
-        && same_rule(rule_at(draft, state, symbol - 2), rule)
+        && rule_at(filter, state, symbol - 1) == rule
+        && rule_at(filter, state, symbol - 2) == rule
 }
 
 // Whether a symbol's run holds the two symbols before it too.
 fn run_repeats<A: Alphabet>(
-    left: &Draft<'_, A>,
-    right: &Draft<'_, A>,
+    left: &Filter<'_, A>,
+    right: &Filter<'_, A>,
     left_state: Option<u16>,
     right_state: Option<u16>,
     symbol: u32,
 ) -> bool
-    requires left { Sound A.model (table_of left.now) }
-    requires right { Sound A.model (table_of right.now) }
-    ensures { result ≡ (thrice (rule_at_lem A.model (table_of left.now) left_state) symbol && thrice (rule_at_lem A.model (table_of right.now) right_state) symbol) }
+    ensures { result ≡ (thrice (rule_at_lem A.model (table_of left.now.draft) left_state) symbol && thrice (rule_at_lem A.model (table_of right.now.draft) right_state) symbol) }
 {
     rule_repeats(left, left_state, symbol) && rule_repeats(right, right_state, symbol)
 }
@@ -145,26 +114,20 @@ fn run_repeats<A: Alphabet>(
 // The next symbol worth trying at a pair of states, at or after a number: the first or the second symbol of a run that
 // some rule holds. A side without a state is dead.
 pub fn next_symbol<A: Alphabet>(
-    left: &Draft<'_, A>,
-    right: &Draft<'_, A>,
+    left: &Filter<'_, A>,
+    right: &Filter<'_, A>,
     left_state: Option<u16>,
     right_state: Option<u16>,
     from: u32,
 ) -> Option<u32>
-    requires left { Sound A.model (table_of left.now) }
-    requires right { Sound A.model (table_of right.now) }
-    ensures least { LeastFrom (worth (rule_at_lem A.model (table_of left.now) left_state) (rule_at_lem A.model (table_of right.now) right_state)) from result }
-    ensures guided { Guided (machine_of A.model (table_of left.now)) (machine_of A.model (table_of right.now)) left_state right_state from result }
+    ensures least { LeastFrom (worth (rule_at_lem A.model (table_of left.now.draft) left_state) (rule_at_lem A.model (table_of right.now.draft) right_state)) from result }
+    ensures guided { Guided (machine_of A.model (table_of left.now.draft)) (machine_of A.model (table_of right.now.draft)) left_state right_state from result }
     ensures bound { Below 2097152 result }
 {
-    let Some(first) = first_of_either(left, right, left_state, right_state, from) else {
-        return None;
-    };
+    let first = first_of_either(left, right, left_state, right_state, from)?;
     if !run_repeats(left, right, left_state, right_state, first) {
         return Some(first);
     }
-    let Some(end) = run_end(left, right, left_state, right_state, first) else {
-        return None;
-    };
+    let end = run_end(left, right, left_state, right_state, first)?;
     first_of_either(left, right, left_state, right_state, end)
 }

@@ -44,14 +44,13 @@ pub fn clean<A: Alphabet>(
 ) -> Result<(Outcome, Vec<u32>), CleanFault>
     ensures { Cleans A.model (table_of draft.now) text.now result }
 {
-    let fault = match transduce(draft, text, &mut []) {
-        Ok(outcome) => return Ok((outcome, Vec::new(heap))),
-        Err(fault) => fault,
-    };
-    let TransduceFault::ShortOutput(needed) = fault else {
-        return Err(CleanFault::Refused(fault));
-    };
-    let mut out = vec![in heap; 0u32; needed]?;
-    let outcome = transduce(draft, text, out.as_mut_slice())?;
-    Ok((outcome, out))
+    match transduce(draft, text, &mut []) {
+        Ok(outcome) => Ok((outcome, Vec::new(heap))),
+        Err(TransduceFault::ShortOutput(needed)) => {
+            let mut out = vec![in heap; 0u32; needed]?;
+            let outcome = transduce(draft, text, out.as_mut_slice())?;
+            Ok((outcome, out))
+        }
+        Err(fault) => Err(fault.into()),
+    }
 }

@@ -3,7 +3,7 @@ use Rattle.std.proofs.Common.{◌≡◌, ℕ, suc, ◌+◌, ◌-◌, ◌*◌, �
 use borrow.Rule.Slice.PartMut.{put_mid}
 use Rattle.std.proofs.lemmas.Nat.{mul-le}
 use Rattle.std.proofs.lemmas.List.{flat_map_more, length-take-le, take_more}
-use Rattle.shelf_holdings.specs.Append.{over}
+use Rattle.holdings.specs.Append.{over}
 use Rattle.codec_laws.specs.Code.{Code, Exact}
 use Rattle.codec_laws.specs.Lists.{later, or_else, image_all, records, wrong_from}
 use Rattle.codec_laws.proofs.Lists.{records_length, records_more, size_all, wrong_step}

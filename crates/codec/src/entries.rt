@@ -1,11 +1,11 @@
 // Entries of a ledger, states and rules as records.
 ghost use Rattle.std.specs.Prelude.{◌≡◌, ◌+◌, ◌≤◌, length};
-ghost use Rattle.shelf_holdings.specs.Append.{over};
+ghost use Rattle.holdings.specs.Append.{over};
 ghost use Rattle.codec_laws.specs.Entries.{entry_code, state_code, rule_code};
 ghost use Rattle.codec_laws.proofs.Laws.{entry_exact, state_exact, rule_exact};
 
 use crate::{GuardRecord, Record};
-use shelf_holdings::Entry;
+use holdings::Entry;
 use table::{Rule, State};
 
 impl Record for Entry {

@@ -1,6 +1,6 @@
 // Runs of records, one behind another: read into a list, written from a list, looked through for a wrong byte.
 ghost use Rattle.std.specs.Prelude.{◌≡◌, ◌+◌, ◌*◌, ◌≤◌, length, drop};
-ghost use Rattle.shelf_holdings.specs.Append.{over};
+ghost use Rattle.holdings.specs.Append.{over};
 ghost use Rattle.codec_laws.specs.Lists.{image_all, records, wrong_from};
 
 use crate::Record;

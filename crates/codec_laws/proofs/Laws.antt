@@ -9,7 +9,7 @@ use Rattle.table.specs.declared.entries.Rule.{Rule}
 use Rattle.range_laws.specs.declared.Range.{Range}
 use Rattle.range_laws.specs.declared.RangeTerm.{RangeTerm}
 use Rattle.range_laws.specs.declared.RangeTerm.TheVariants.{Constant, Shift}
-use Rattle.shelf_holdings.specs.declared.memory.Entry.{Entry}
+use Rattle.holdings.specs.declared.memory.Entry.{Entry}
 use Rattle.codec_laws.specs.Code.{Code, Bytes, Exact, Free}
 use Rattle.codec_laws.specs.Numbers.{two, four, at, two_at, four_at}
 use Rattle.codec_laws.specs.Entries.{entry_code, state_code, rule_code}

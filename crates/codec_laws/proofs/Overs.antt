@@ -2,7 +2,7 @@
 use Rattle.std.proofs.Common.{◌≡◌, ℕ, ◌+◌, ◌<◌, ◌≤◌, List, [], ◌∷◌, ◌++◌, length, take, drop, set, sym, ap, ◌∙◌, add-one, arith}
 use borrow.Rule.Slice.PartMut.{put_mid}
 use Rattle.std.proofs.lemmas.List.{append_assoc, append-nil, drop_all, drop_at, drop-drop, length-append, length-drop, length-take-le, set_split, take-append-drop, take_at}
-use Rattle.shelf_holdings.specs.Append.{over}
+use Rattle.holdings.specs.Append.{over}
 
 module _ {X : Type 0} (xs : List X) (n : ℕ) where
   pub length_over : (ys : List X) → n + length ys ≤ length xs → length (over xs n ys) ≡ length xs

@@ -2,7 +2,7 @@
 use Rattle.std.specs.Prelude.{◌&&◌, ◌∷◌, ◌++◌, drop, None, nat_lt}
 use Rattle.table.specs.declared.entries.State.{State}
 use Rattle.table.specs.declared.entries.Rule.{Rule}
-use Rattle.shelf_holdings.specs.declared.memory.Entry.{Entry}
+use Rattle.holdings.specs.declared.memory.Entry.{Entry}
 use Rattle.codec_laws.specs.Code.{Code}
 use Rattle.codec_laws.specs.Numbers.{two, at, two_at}
 

@@ -1,4 +1,2 @@
-pub mod Equivalences
-pub mod Readable
 pub mod Filings
 pub mod Laws

@@ -6,7 +6,7 @@ use Rattle.table.specs.declared.entries.Rule.{Rule}
 use Rattle.table.specs.Table.{Table}
 use Rattle.table.specs.Sound.{Sound}
 use Rattle.holdings.specs.declared.memory.Entry.{Entry}
-use Rattle.holdings.specs.declared.fault.Fault.{Fault}
+use Rattle.answers.specs.declared.fault.Fault.{Fault}
 use Rattle.holdings.specs.Memory.{Memory, opened}
 use Rattle.holdings.specs.Check.{checked_shelf}
 use Rattle.collection.specs.Filing.{Answer, Unreadable, NoFilter, Filing}

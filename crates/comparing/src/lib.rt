@@ -3,17 +3,16 @@
 
 ghost use Rattle.std.specs.Prelude.{◌≡◌};
 ghost use Rattle.table.specs.Table.{table_of};
-ghost use Rattle.table.specs.Sound.{Sound};
 ghost use Rattle.comparing.specs.declared.CompareFault.TheVariants.{NoMemory};
 ghost use Rattle.comparing.specs.Comparisons.{Compares};
 
 use alphabet::Alphabet;
-use equivalence::compare::compare;
-use judging::frame_of;
+use equivalence::compare::{ScratchShort, compare};
+use judging::FilterPair;
 use queue::Queue;
 use std::alloc::{AllocError, Global};
-use steps::{Side, Step, steps_needed, write_text};
-use table::{Draft, TableFault};
+use steps::{Step, write_text};
+use table::{Draft, Filter, TableFault};
 
 // Why two filters are not compared.
 #[derive(Drop)]
@@ -34,46 +33,35 @@ impl From<AllocError> for CompareFault {
     }
 }
 
-const SIDE: Side = Side {
-    state: None,
-    from: 0,
-    to: 0,
-    total: 0,
-};
+impl From<ScratchShort> for CompareFault {
+    ghost from_gives = { λ _ r. r ≡ NoMemory };
 
-pub const BLANK: Step = Step {
-    parent: 0,
-    symbol: 0,
-    left: SIDE,
-    right: SIDE,
-    again: false,
-};
+    fn from(_fault: ScratchShort) -> CompareFault {
+        CompareFault::NoMemory
+    }
+}
 
 // The earliest of the shortest texts that distinguish two sound filters, or none where they are equivalent.
 fn compare_sound<A: Alphabet>(
     heap: Global,
-    first: &Draft<'_, A>,
-    second: &Draft<'_, A>,
+    first: &Filter<'_, A>,
+    second: &Filter<'_, A>,
 ) -> Result<Option<Vec<u32>>, CompareFault>
-    requires first { Sound A.model (table_of first.now) }
-    requires second { Sound A.model (table_of second.now) }
-    ensures { Compares A.model (table_of first.now) (table_of second.now) result }
+    ensures { Compares A.model (table_of first.now.draft) (table_of second.now.draft) result }
 {
-    let frame = frame_of(first, second);
-    let needed = steps_needed(frame.left, frame.right);
-    let mut steps = vec![in heap; BLANK; needed]?;
-    let mut symbols = vec![in heap; 0u32; 6 * frame.room]?;
+    let pair = FilterPair::new(first, second);
+    let needed = pair.steps();
+    let mut steps = vec![in heap; Step::default(); needed]?;
+    let mut symbols = vec![in heap; 0u32; pair.symbols()]?;
     let mut queue = Queue::new(steps.as_mut_slice());
-    let Ok(answer) = compare(first, second, &mut queue, symbols.as_mut_slice()) else {
-        return Err(CompareFault::NoMemory);
-    };
+    let answer = compare(first, second, &mut queue, symbols.as_mut_slice())?;
     let Some(step) = answer else {
         return Ok(None);
     };
     let mut text = vec![in heap; 0u32; needed]?;
-    let Some(count) = write_text(queue.entries(), step, text.as_mut_slice()) else {
-        return Err(CompareFault::NoMemory);
-    };
+    let count = write_text(queue.entries(), step, text.as_mut_slice()).ok_or(
+        CompareFault::NoMemory,
+    )?;
     text.truncate(count);
     Ok(Some(text))
 }
@@ -86,11 +74,7 @@ pub fn compare_drafts<A: Alphabet>(
 ) -> Result<Option<Vec<u32>>, CompareFault>
     ensures { Compares A.model (table_of first.now) (table_of second.now) result }
 {
-    if let Err(fault) = first.check() {
-        return Err(CompareFault::First(fault));
-    }
-    if let Err(fault) = second.check() {
-        return Err(CompareFault::Second(fault));
-    }
-    compare_sound(heap, first, second)
+    let first = Filter::new(*first).map_err(CompareFault::First)?;
+    let second = Filter::new(*second).map_err(CompareFault::Second)?;
+    compare_sound(heap, &first, &second)
 }

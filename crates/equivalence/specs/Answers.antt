@@ -1,10 +1,11 @@
 -- What a comparison answers.
-use Rattle.std.specs.Prelude.{ℕ, ◌*◌, ◌<◌, ◌≤◌, false, ◌⊎◌, List, length, Some, None, Ok, Err, Option, Result}
+use Rattle.std.specs.Prelude.{ℕ, ◌*◌, ◌<◌, ◌≤◌, ◌⊎◌, List, length, Some, None, Ok, Err, Option, Result}
 use Rattle.machine.specs.Compared.{Told}
 use Rattle.alphabet.specs.Model.{Model}
 use Rattle.table.specs.Table.{Table}
 use Rattle.filter.specs.Machines.{machine_of}
 use Rattle.steps.specs.declared.step.Side.{Side}
+use Rattle.steps.specs.declared.step.Visit.TheVariants.{First}
 use Rattle.steps.specs.declared.step.Step.{Step}
 use Rattle.steps.specs.Steps.{text}
 use Rattle.steps.specs.Places.{steps_needed_lem}
@@ -26,7 +27,7 @@ abbrev pub root_side : Side
 root_side = record { state = Some 0; from = 0; to = 0; total = 0 }
 
 abbrev pub root_step : Step
-root_step = record { parent = 0; symbol = 0; left = root_side; right = root_side; again = false }
+root_step = record { parent = 0; symbol = 0; left = root_side; right = root_side; visit = First }
 
 abbrev pub root_place : ℕ
 root_place = 0

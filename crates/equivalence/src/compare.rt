@@ -2,25 +2,22 @@
 ghost use Rattle.std.specs.Prelude.{◌≡◌, ℕ, ◌+◌, ◌*◌, ◌<◌, ◌≤◌, [], ◌∷◌, length, slice_set};
 ghost use Rattle.queue.specs.Held.{entries as entries_of, room as slots_of};
 ghost use Rattle.table.specs.Table.{table_of};
-ghost use Rattle.table.specs.Sound.{Sound};
 ghost use Rattle.equivalence.specs.Answers.{root_step, root_place, Compared};
 ghost use Rattle.equivalence.specs.Decided.{Decides};
 
 use crate::search::search;
 use alphabet::Alphabet;
-use judging::{Frame, frame_of};
+use judging::FilterPair;
 use queue::Queue;
-use steps::{Side, Step, place_of, steps_needed};
-use table::Draft;
+use steps::{Side, Step, place_of};
+use table::Filter;
 
 // The caller's scratch is too short.
 #[derive(Clone, Copy)]
 pub struct ScratchShort;
 
 // Puts the step of the empty text into the queue, and its number into the cell of its place.
-fn start(frame: Frame, queue: &mut Queue<'_, Step>, cells: &mut [u32])
-    requires left { frame.left ≤ 64 }
-    requires right { frame.right ≤ 64 }
+fn start<A: Alphabet>(pair: &FilterPair<'_, '_, A>, queue: &mut Queue<'_, Step>, cells: &mut [u32])
     requires slots { 0 < slots_of queue.old }
     requires cells { root_place < length cells.old }
     requires fresh { entries_of queue.old ≡ [] }
@@ -31,18 +28,20 @@ fn start(frame: Frame, queue: &mut Queue<'_, Step>, cells: &mut [u32])
 {
     let side = Side {
         state: Some(0),
-        from: 0,
-        to: 0,
-        total: 0,
+        ..Side::default()
     };
     let step = Step {
-        parent: 0,
-        symbol: 0,
         left: side,
         right: side,
-        again: false,
+        ..Step::default()
     };
-    let place = place_of(frame.left, frame.right, side.state, side.state, false);
+    let place = place_of(
+        pair.frame.left,
+        pair.frame.right,
+        side.state,
+        side.state,
+        step.visit,
+    );
     if let Ok(_) = queue.push(step) {
         cells[place] = 0;
     }
@@ -52,23 +51,21 @@ fn start(frame: Frame, queue: &mut Queue<'_, Step>, cells: &mut [u32])
 // every text. The steps of the texts that it looks at wait in the queue, which is empty at first. Refuses where the queue
 // or the symbols have too little room, and then looks at nothing.
 pub fn compare<A: Alphabet>(
-    left: &Draft<'_, A>,
-    right: &Draft<'_, A>,
+    left: &Filter<'_, A>,
+    right: &Filter<'_, A>,
     queue: &mut Queue<'_, Step>,
     symbols: &mut [u32],
 ) -> Result<Option<usize>, ScratchShort>
-    requires left { Sound A.model (table_of left.now) }
-    requires right { Sound A.model (table_of right.now) }
     requires fresh { entries_of queue.old ≡ [] }
     requires taken { queue.old.taken ≡ 0 }
-    ensures answer { Compared A.model (table_of left.now) (table_of right.now) (slots_of queue.old) (length symbols.old) (entries_of queue.new) result }
-    ensures decides { Decides A.model (table_of left.now) (table_of right.now) (entries_of queue.new) result }
+    ensures answer { Compared A.model (table_of left.now.draft) (table_of right.now.draft) (slots_of queue.old) (length symbols.old) (entries_of queue.new) result }
+    ensures decides { Decides A.model (table_of left.now.draft) (table_of right.now.draft) (entries_of queue.new) result }
 {
-    let frame = frame_of(left, right);
-    if queue.room() < steps_needed(frame.left, frame.right) || symbols.len() < 6 * frame.room {
+    let pair = FilterPair::new(left, right);
+    if queue.room() < pair.steps() || symbols.len() < pair.symbols() {
         return Err(ScratchShort);
     }
-    let (cells, outputs) = symbols.split_at_mut(frame.room);
-    start(frame, queue, cells);
-    Ok(search(left, right, frame, queue, cells, outputs))
+    let (cells, outputs) = symbols.split_at_mut(pair.frame.room);
+    start(&pair, queue, cells);
+    Ok(search(&pair, queue, cells, outputs))
 }

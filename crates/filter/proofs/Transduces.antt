@@ -30,14 +30,6 @@ module _ (m : Machine) (u : List ℕ) (short : length u ≤ 1048576) where
       let pair : ◌≡◌ {A = ℕ × ℕ} (r.0, length r.1) (p, n) = cc in
       (r.1, e ∙ ap (λ q. Some (q, r.1)) (ap (λ (x : ℕ × ℕ). x.0) pair), ap (λ (x : ℕ × ℕ). x.1) pair)
 
-  -- the walk does not get through
-  pub answer_stuck : (room k : ℕ) → walked m u 0 ≡ Err k → answer_for m u room ≡ Ok (Rejected k)
-  answer_stuck room k h = go (run m u 0) refl h
-    where
-      go : (o : Option (ℕ × List ℕ)) → run m u 0 ≡ o → end_of (position m u 0) o ≡ Err k → answer_for m u room ≡ Ok (Rejected k)
-      go None e f = answer_at_lem room None (rw e) ∙ cc
-      go (Some r) e f = grind arith
-
   module _ (p n : ℕ) (through : walked m u 0 ≡ Ok (p, n)) where
     pub word : (w : List ℕ) × (run m u 0 ≡ Some (p, w)) × (length w ≡ n)
     word = walk_tells p n (run m u 0) refl through

@@ -4,12 +4,11 @@ ghost use Rattle.std.specs.List.{AllByRecursion};
 ghost use Rattle.machine.specs.Walk.{written};
 ghost use Rattle.alphabet.specs.Model.{SoundTerm};
 ghost use Rattle.table.specs.Table.{table_of, final_total_of};
-ghost use Rattle.table.specs.Sound.{Sound};
 ghost use Rattle.filter.specs.Machines.{values_of, machine_of, found, Finds};
 ghost use Rattle.filter.specs.Outcomes.{put, walked, CountWithin, behind, finished};
 
 use alphabet::Alphabet;
-use table::{Draft, final_total};
+use table::{Filter, final_total};
 
 // A rule that applies: its number, where it leads, and where its outputs stand in the output list.
 #[derive(Clone, Copy)]
@@ -22,18 +21,17 @@ pub struct Found {
 
 // The rule of a state that holds a symbol, or none. `first` is where the outputs of rules begin.
 pub fn find<A: Alphabet>(
-    draft: &Draft<'_, A>,
+    filter: &Filter<'_, A>,
     first: usize,
     state: u16,
     symbol: u32,
 ) -> Option<Found>
-    requires sound { Sound A.model (table_of draft.now) }
-    requires first { first ≡ final_total_of draft.now.states.now }
-    ensures answer { result ≡ found A.model state symbol 0 first draft.now.rules.now }
-    ensures leads { Finds A.model (table_of draft.now) state symbol result }
+    requires first { first ≡ final_total_of filter.now.draft.states.now }
+    ensures answer { result ≡ found A.model state symbol 0 first filter.now.draft.rules.now }
+    ensures leads { Finds A.model (table_of filter.now.draft) state symbol result }
 {
     let mut from = first;
-    for (number, rule) in draft.rules.iter().enumerate() {
+    for (number, rule) in filter.draft.rules.iter().enumerate() {
         let to = from + rule.outputs as usize;
         if rule.state == state && A::holds(rule.guard, symbol) {
             return Some(Found {
@@ -78,52 +76,50 @@ pub fn emit<A: Alphabet>(terms: &[A::Term], symbol: u32, out: &mut [u32], at: us
 // Writes the final output of a state from a place on, as far as the output reaches, and answers the place behind it; or
 // none where the state rejects.
 pub fn finish<A: Alphabet>(
-    draft: &Draft<'_, A>,
+    filter: &Filter<'_, A>,
     state: u16,
     out: &mut [u32],
     at: usize,
 ) -> Option<usize>
-    requires sound { Sound A.model (table_of draft.now) }
     requires fits { at ≤ 2 ^ 63 }
-    ensures answer { result ≡ behind at ((machine_of A.model (table_of draft.now)).final state) }
-    ensures output { out.new ≡ finished at ((machine_of A.model (table_of draft.now)).final state) out.old }
+    ensures answer { result ≡ behind at ((machine_of A.model (table_of filter.now.draft)).final state) }
+    ensures output { out.new ≡ finished at ((machine_of A.model (table_of filter.now.draft)).final state) out.old }
 {
     let state = state as usize;
-    if state >= draft.states.len() {
+    if state >= filter.draft.states.len() {
         return None;
     }
-    let entry = draft.states[state];
+    let entry = filter.draft.states[state];
     if entry.mark != 1 {
         return None;
     }
-    let from = final_total(&draft.states[0..state]);
+    let from = final_total(&filter.draft.states[0..state]);
     let to = from + entry.finals as usize;
-    Some(emit::<A>(&draft.outputs[from..to], 0, out, at))
+    Some(emit::<A>(&filter.draft.outputs[from..to], 0, out, at))
 }
 
 // Walks from a state along a text, writes as far as the output reaches, and answers the state reached and the number of
 // symbols written; or the position of the symbol that no rule holds.
 pub fn walk<A: Alphabet>(
-    draft: &Draft<'_, A>,
+    filter: &Filter<'_, A>,
     start: u16,
     text: &[u32],
     out: &mut [u32],
 ) -> Result<(u16, usize), usize>
-    requires sound { Sound A.model (table_of draft.now) }
     requires short { length text.now ≤ 1048576 }
-    ensures answer { result ≡ walked (machine_of A.model (table_of draft.now)) text.now start }
+    ensures answer { result ≡ walked (machine_of A.model (table_of filter.now.draft)) text.now start }
     ensures bound { CountWithin (32 * length text.now) result }
-    ensures output { out.new ≡ put 0 (written (machine_of A.model (table_of draft.now)) text.now start) out.old }
+    ensures output { out.new ≡ put 0 (written (machine_of A.model (table_of filter.now.draft)) text.now start) out.old }
 {
-    let first = final_total(draft.states);
+    let first = final_total(filter.draft.states);
     let mut state = start;
     let mut count = 0;
     for (position, symbol) in text.iter().enumerate() {
-        let Some(found) = find(draft, first, state, *symbol) else {
+        let Some(found) = find(filter, first, state, *symbol) else {
             return Err(position);
         };
         let Found { from, to, next, .. } = found;
-        count = emit::<A>(&draft.outputs[from..to], *symbol, out, count);
+        count = emit::<A>(&filter.draft.outputs[from..to], *symbol, out, count);
         state = next;
     }
     Ok((state, count))

@@ -1,28 +1,14 @@
 -- One turn of the check of all holdings.
-use Rattle.std.proofs.Common.{◌≡◌, ℕ, ◌+◌, ◌<◌, ◌≤◌, true, cond, length, drop, Ok, Err, Result, sym, refl, ap, ◌∙◌, arith}
+use Rattle.std.proofs.Common.{◌≡◌, ℕ, ◌+◌, ◌<◌, ◌≤◌, true, cond, length, drop, Ok, Err, Result, sym, ap, ◌∙◌, arith}
 use Rattle.std.proofs.lemmas.List.{at_drop_more, at_drop_all, length-take-le}
 use Rattle.alphabet.specs.Model.{Model}
-use Rattle.table.specs.declared.fault.TableFault.{TableFault}
-use Rattle.table.specs.Check.{Checked, checked}
+use Rattle.table.specs.Check.{checked}
 use Rattle.table.specs.Results.{map_err}
-use Rattle.holdings.specs.declared.fault.Fault.{Fault}
-use Rattle.holdings.specs.declared.fault.Fault.TheVariants.{Misfit, Unsound}
-use Rattle.holdings.specs.declared.fault.AtHolding.{AtHolding}
+use Rattle.answers.specs.declared.fault.Fault.{Fault}
+use Rattle.answers.specs.declared.fault.Fault.TheVariants.{Misfit, Unsound}
 use Rattle.holdings.specs.Memory.{Memory, in_use, fits, holding}
 use Rattle.holdings.specs.Check.{next, check_from, checked_shelf}
 use Rattle.holdings.proofs.Parts.{blank, fitting}
-
--- a fault with its holding's number beside it
-abbrev pub at : ℕ → TableFault → AtHolding
-at n f = record { holding = n; fault = f }
-
-pub at_ok : (n : ℕ) (r : Checked) (x : Unit {0}) → map_err (at n) r ≡ Ok x → map_err (Unsound n) r ≡ Ok tt
-at_ok n (Ok y) x e = refl
-at_ok n (Err f) x e = grind arith
-
-pub at_err : (n : ℕ) (r : Checked) (a : AtHolding) → map_err (at n) r ≡ Err a → map_err (Unsound n) r ≡ Err (Unsound a.holding a.fault)
-at_err n (Ok y) a e = grind arith
-at_err n (Err f) a e = let same : at n f ≡ a = cc in ap (λ (x : AtHolding). Err (Unsound x.holding x.fault)) same
 
 module _ {G T : Type 0} (m : Model G T) (M : Memory G T) (ok : fits M ≡ true) where
   in_use_lem : length (in_use M) ≡ M.head.holdings

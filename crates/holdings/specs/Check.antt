@@ -4,8 +4,8 @@ use Rattle.alphabet.specs.Model.{Model}
 use Rattle.table.specs.Check.{checked}
 use Rattle.table.specs.Results.{map_err}
 use Rattle.holdings.specs.declared.memory.Entry.{Entry}
-use Rattle.holdings.specs.declared.fault.Fault.{Fault}
-use Rattle.holdings.specs.declared.fault.Fault.TheVariants.{Misfit, Unsound}
+use Rattle.answers.specs.declared.fault.Fault.{Fault}
+use Rattle.answers.specs.declared.fault.Fault.TheVariants.{Misfit, Unsound}
 use Rattle.holdings.specs.Memory.{Memory, in_use, fits, holding}
 
 -- the first fault of two

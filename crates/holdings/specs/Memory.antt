@@ -1,8 +1,10 @@
 -- What the memory of a shelf holds, and which tables its holdings are.
-use Rattle.std.specs.Prelude.{ℕ, Bool, ◌&&◌, List, length, take, sum_by, ◌==◌, nat_le}
+use Rattle.std.specs.Prelude.{ℕ, ◌-◌, Bool, cond, ◌&&◌, List, length, take, Ok, Err, sum_by, Result, ◌==◌, nat_le, nat_lt}
 use Rattle.table.specs.declared.entries.State.{State}
 use Rattle.table.specs.declared.entries.Rule.{Rule}
 use Rattle.table.specs.Table.{Table, stretch}
+use Rattle.answers.specs.declared.fault.Fault.{Fault}
+use Rattle.answers.specs.declared.fault.Fault.TheVariants.{NoHolding}
 use Rattle.holdings.specs.declared.memory.Head.{Head}
 use Rattle.holdings.specs.declared.memory.Entry.{Entry}
 use Rattle.holdings.specs.declared.memory.Shelf.{Shelf}
@@ -54,6 +56,10 @@ holding M i = record {
   rules = stretch (λ (e : Entry). e.rules) (in_use M) i M.rules;
   outputs = stretch (λ (e : Entry). e.outputs) (in_use M) i M.outputs;
 }
+
+-- how many holdings stand in front of the one of a number, or that there is none; they are numbered from 1
+abbrev pub place_of : {G T : Type 0} → Memory G T → ℕ → Result ℕ Fault
+place_of M n = cond (nat_lt 0 n && nat_le n M.head.holdings) (Ok (n - 1)) (Err (NoHolding n))
 
 -- a shelf just opened over lists
 abbrev pub opened : {G T : Type 0} → List Entry → List State → List (Rule G) → List T → Memory G T

@@ -1,12 +1,14 @@
 // Putting a table behind the holdings of a shelf.
-ghost use Rattle.std.specs.Prelude.{◌≡◌, ◌+◌, ◌≤◌, true, length, if◌then◌else◌};
+ghost use Rattle.std.specs.Prelude.{◌≡◌, ◌+◌, ◌≤◌, true, length, Ok, Err, OnOk, if◌then◌else◌};
 ghost use Rattle.table.specs.Table.{table_of};
+ghost use Rattle.answers.specs.declared.fault.Fault.TheVariants.{Full};
 ghost use Rattle.holdings.specs.Memory.{memory_of, fits as fitting};
 ghost use Rattle.holdings.specs.Append.{over, room_for, appended, Adds};
 
 use crate::memory::{Entry, Head, Shelf};
 use crate::views::MOST_HOLDINGS;
 use alphabet::Alphabet;
+use answers::Fault;
 use table::Draft;
 
 // Writes a list over another from a place on.
@@ -32,16 +34,16 @@ impl<'a, A: Alphabet> Shelf<'a, A> {
             && draft.outputs.len() <= self.outputs.len() - head.outputs
     }
 
-    // Puts a table behind the holdings, and answers whether there was room.
-    pub fn append(&mut self, draft: &Draft<'_, A>) -> bool
+    // Puts a table behind the holdings, where there is room.
+    pub fn append(&mut self, draft: &Draft<'_, A>) -> Result<(), Fault>
         requires fits { fitting (memory_of self.old) ≡ true }
         requires short { (length draft.now.states.now ≤ 65535) × (length draft.now.rules.now ≤ 65535) × (length draft.now.outputs.now ≤ 65535) }
-        ensures answer { result ≡ room_for (memory_of self.old) (table_of draft.now) }
-        ensures memory { memory_of self.new ≡ (if result then appended (memory_of self.old) (table_of draft.now) else memory_of self.old) }
-        ensures adds { result ≡ true → Adds (memory_of self.old) (table_of draft.now) (memory_of self.new) }
+        ensures answer { result ≡ (if room_for (memory_of self.old) (table_of draft.now) then Ok tt else Err Full) }
+        ensures memory { memory_of self.new ≡ (if room_for (memory_of self.old) (table_of draft.now) then appended (memory_of self.old) (table_of draft.now) else memory_of self.old) }
+        ensures adds { OnOk result (Adds (memory_of self.old) (table_of draft.now) (memory_of self.new)) }
     {
         if !self.has_room_for(draft) {
-            return false;
+            return Err(Fault::Full);
         }
         let head = self.head;
         copy_into(&mut *self.states, head.states, draft.states);
@@ -59,6 +61,6 @@ impl<'a, A: Alphabet> Shelf<'a, A> {
             rules: head.rules + draft.rules.len(),
             outputs: head.outputs + draft.outputs.len(),
         };
-        true
+        Ok(())
     }
 }

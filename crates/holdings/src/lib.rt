@@ -2,10 +2,10 @@
 #![tactic(auto)]
 
 pub mod append;
-pub mod fault;
 pub mod memory;
 pub mod open;
+pub mod reading;
 pub mod views;
 
-pub use fault::Fault;
 pub use memory::{Entry, Head, Shelf};
+pub use reading::Readable;

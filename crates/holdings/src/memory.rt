@@ -3,7 +3,7 @@ use alphabet::Alphabet;
 use table::{Rule, State};
 
 // How many holdings there are, and how much of the lists they use.
-#[derive(Clone, Copy, Debug, PartialEq)]
+#[derive(Clone, Copy, Debug, Default, PartialEq)]
 pub struct Head {
     pub holdings: usize,
     pub states: usize,
@@ -21,6 +21,7 @@ pub struct Entry {
 
 // A shelf. Its holdings stand one behind another in each list, in the order of the ledger; entries of the ledger and of
 // the lists behind those in use are spare. Nothing is known of its contents: every call reads it through first.
+#[derive(Drop)]
 pub struct Shelf<'a, A: Alphabet> {
     pub head: Head,
     pub ledger: &'a mut [Entry],

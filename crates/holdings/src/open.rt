@@ -17,14 +17,8 @@ impl<'a, A: Alphabet> Shelf<'a, A> {
         ensures memory { memory_of result ≡ opened ledger.old states.old rules.old outputs.old }
         ensures fits { fitting (memory_of result) ≡ true }
     {
-        let head = Head {
-            holdings: 0,
-            states: 0,
-            rules: 0,
-            outputs: 0,
-        };
         Shelf {
-            head,
+            head: Head::default(),
             ledger,
             states,
             rules,

@@ -1,12 +1,12 @@
 // Reading a shelf: whether head and ledger fit, and each holding as a view of the lists.
 ghost use Rattle.std.specs.Prelude.{◌≡◌, ◌*◌, ◌<◌, ◌≤◌, true, length};
 ghost use Rattle.table.specs.Table.{table_of};
-ghost use Rattle.holdings.specs.Memory.{memory_of, in_use, states_of_lem, rules_of, outputs_of_lem, adds_up_lem, has_room_lem, fits as fitting, holding};
+ghost use Rattle.holdings.specs.Memory.{memory_of, in_use, states_of_lem, rules_of, outputs_of_lem, adds_up_lem, has_room_lem, fits as fitting, holding, place_of};
 ghost use Rattle.holdings.specs.Check.{checked_shelf};
 
-use crate::fault::{Fault, at_holding};
 use crate::memory::{Entry, Head, Shelf};
 use alphabet::Alphabet;
+use answers::Fault;
 use table::Draft;
 
 // The most holdings of a shelf.
@@ -70,6 +70,17 @@ impl<'a, A: Alphabet> Shelf<'a, A> {
                 self.outputs.len(),
             )
     }
+
+    // How many holdings stand in front of the one of a number; they are numbered from 1.
+    pub fn place(&self, number: usize) -> Result<usize, Fault>
+        ensures { result ≡ place_of (memory_of self.now) number }
+    {
+        if number == 0 || number > self.head.holdings {
+            return Err(Fault::NoHolding(number));
+        }
+        Ok(number - 1)
+    }
+
     // The holding behind i others, as a view of the lists.
     pub fn view<'b>(&'b self, i: usize) -> Draft<'b, A>
         requires fits { fitting (memory_of self.now) ≡ true }
@@ -90,6 +101,7 @@ impl<'a, A: Alphabet> Shelf<'a, A> {
             outputs: &self.outputs[outputs..outputs_end],
         }
     }
+
     // Whether the shelf can be read: it fits, and every holding is sound.
     pub fn check(&self) -> Result<(), Fault>
         ensures { result ≡ checked_shelf A.model (memory_of self.now) }
@@ -100,7 +112,9 @@ impl<'a, A: Alphabet> Shelf<'a, A> {
         let holdings = self.head.holdings;
         for i in 0..holdings {
             let view = self.view(i);
-            at_holding(i + 1, view.check())?;
+            if let Err(fault) = view.check() {
+                return Err(Fault::Unsound(i + 1, fault));
+            }
         }
         Ok(())
     }

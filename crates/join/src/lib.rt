@@ -1,9 +1,8 @@
 // Joining two filters: the table of their composition.
 #![tactic(auto)]
 
-ghost use Rattle.std.specs.Prelude.{◌≡◌, ◌≤◌, min, [], ◌∷◌, length};
+ghost use Rattle.std.specs.Prelude.{◌≡◌, ◌≤◌, [], ◌∷◌, length};
 ghost use Rattle.table.specs.Table.{table_of};
-ghost use Rattle.table.specs.Sound.{Sound};
 ghost use Rattle.queue.specs.Held.{entries, room};
 ghost use Rattle.join_laws.specs.Joined.{joined};
 ghost use Rattle.join_laws.specs.Theorems.{Joins};
@@ -15,7 +14,8 @@ use join_rules::explore;
 use join_states::add_states;
 use join_ways::{Span, TooLarge};
 use queue::Queue;
-use table::{Draft, Rule, State};
+use table::check::{MOST_OUTPUTS, MOST_RULES, MOST_STATES};
+use table::{Filter, Rule, State};
 
 // How many states, rules and outputs a filter has.
 #[derive(Clone, Copy)]
@@ -25,40 +25,24 @@ pub struct Sizes {
     pub outputs: usize,
 }
 
-// The most states, rules and outputs of a filter.
-const MOST_STATES: usize = 64;
-
-const MOST_RULES: usize = 1024;
-
-const MOST_OUTPUTS: usize = 4096;
-
-// The smaller of two numbers.
-fn least(a: usize, b: usize) -> usize
-    ensures { result ≡ min a b }
-{
-    if a < b { a } else { b }
-}
-
 // Writes the joined filter to the front of three lists, which are within the limits. In the queue waits the pair (0, 0).
 fn fill<'x, A: Alphabet>(
-    first: &'x Draft<'x, A>,
-    second: &'x Draft<'x, A>,
+    first: &'x Filter<'x, A>,
+    second: &'x Filter<'x, A>,
     states: &mut [State],
     rules: &mut [Rule<A::Guard>],
     outputs: &mut [A::Term],
     queue: &mut Queue<'_, Pair>,
     path: &mut [Span],
 ) -> Result<Sizes, TooLarge>
-    requires first { Sound A.model (table_of first.now) }
-    requires second { Sound A.model (table_of second.now) }
     requires start { entries queue.old ≡ (0, 0) ∷ [] }
     requires waits { queue.old.taken ≡ 0 }
     requires fits { 1 ≤ room queue.old }
     requires few { room queue.old ≤ 64 }
     requires states { room queue.old ≤ length states.old }
     requires path { 32 ≤ length path.old }
-    ensures fills { Fills (joined A.model (table_of first.now) (table_of second.now)) (room queue.old) states.old states.new rules.old rules.new outputs.old outputs.new result }
-    ensures composes { Joins A.model (table_of first.now) (table_of second.now) }
+    ensures fills { Fills (joined A.model (table_of first.now.draft) (table_of second.now.draft)) (room queue.old) states.old states.new rules.old rules.new outputs.old outputs.new result }
+    ensures composes { Joins A.model (table_of first.now.draft) (table_of second.now.draft) }
 {
     let counts = explore(first, second, &mut *queue, path, rules, &mut *outputs)?;
     let from = counts.outputs;
@@ -75,28 +59,24 @@ fn fill<'x, A: Alphabet>(
 // lists, and answers its sizes. Refuses where it is over a limit or over a list; the lists then hold anything. The pair
 // list is scratch.
 pub fn join<'x, A: Alphabet>(
-    first: &'x Draft<'x, A>,
-    second: &'x Draft<'x, A>,
+    first: &'x Filter<'x, A>,
+    second: &'x Filter<'x, A>,
     states: &mut [State],
     rules: &mut [Rule<A::Guard>],
     outputs: &mut [A::Term],
     pairs: &mut [Pair],
 ) -> Result<Sizes, TooLarge>
-    requires first { Sound A.model (table_of first.now) }
-    requires second { Sound A.model (table_of second.now) }
-    ensures joins { Answers (joined A.model (table_of first.now) (table_of second.now)) (length pairs.old) states.old states.new rules.old rules.new outputs.old outputs.new result }
-    ensures composes { Joins A.model (table_of first.now) (table_of second.now) }
+    ensures joins { Answers (joined A.model (table_of first.now.draft) (table_of second.now.draft)) (length pairs.old) states.old states.new rules.old rules.new outputs.old outputs.new result }
+    ensures composes { Joins A.model (table_of first.now.draft) (table_of second.now.draft) }
 {
-    let most = least(least(states.len(), pairs.len()), MOST_STATES);
+    let most = states.len().min(pairs.len()).min(MOST_STATES);
     if most == 0 {
         return Err(TooLarge);
     }
-    let most_rules = least(rules.len(), MOST_RULES);
-    let most_outputs = least(outputs.len(), MOST_OUTPUTS);
+    let most_rules = rules.len().min(MOST_RULES);
+    let most_outputs = outputs.len().min(MOST_OUTPUTS);
     let mut queue = Queue::new(&mut pairs[0..most]);
-    let Ok(_) = queue.push((0, 0)) else {
-        return Err(TooLarge);
-    };
+    queue.push((0, 0))?;
     let mut path = [Span { from: 0, to: 0 }; 32];
     fill(
         first,

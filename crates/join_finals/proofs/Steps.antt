@@ -1,7 +1,8 @@
 -- One symbol of the run over constants, and the end of it.
-use Rattle.std.proofs.Common.{◌≡◌, ℕ, ◌+◌, ◌-◌, ◌<◌, ◌≤◌, List, [], ◌∷◌, ◌++◌, length, get_or, take, drop, Some, None, Ok, Err, Option, Result, sym, refl, ap, ◌∙◌, append_assoc, append-nil, arith}
+use Rattle.std.proofs.Common.{◌≡◌, ℕ, ◌+◌, ◌-◌, ◌<◌, ◌≤◌, List, [], ◌∷◌, ◌++◌, length, get_or, take, drop, Some, None, Option, sym, refl, ap, ◌∙◌, append_assoc, append-nil, arith}
 use borrow.Rule.Slice.PartMut.{put_mid, post_of}
 use Rattle.std.specs.Option.{option_to_list}
+use Rattle.std.specs.Result.{result_ok}
 use Rattle.std.proofs.lemmas.List.{take_more, take-append-drop, drop_more, take_at, length-append, length-take-le, length-drop, take_rest}
 use Rattle.machine.specs.Machine.{Machine, and_then, moved, prefixed, run, transduced_from}
 use Rattle.machine.specs.Walk.{or_else, position, written}
@@ -14,32 +15,32 @@ use Rattle.join_laws.proofs.Ways.{values_append}
 use Rattle.join_finals.specs.Finals.{Ends}
 use Rattle.join_finals.proofs.Short.{ShortEnd}
 
-ok_parts : (a b : ℕ × ℕ) → ◌≡◌ {A = Result (ℕ × ℕ) ℕ} (Ok a) (Ok b) → (a.0 ≡ b.0) × (a.1 ≡ b.1)
-ok_parts a b e = let k : a ≡ b = cc in (ap (λ (x : ℕ × ℕ). x.0) k, ap (λ (x : ℕ × ℕ). x.1) k)
+some_parts : (a b : ℕ × ℕ) → Some a ≡ Some b → (a.0 ≡ b.0) × (a.1 ≡ b.1)
+some_parts a b e = let k : a ≡ b = cc in (ap (λ (x : ℕ × ℕ). x.0) k, ap (λ (x : ℕ × ℕ). x.1) k)
 
 -- a walk over one symbol is one step
 module _ (M : Machine) (p s : ℕ) where
   abbrev pub Stepped : ℕ → ℕ → Type 0
   Stepped next k = (v : List ℕ) × (M.step p s ≡ Some (next, v)) × (k ≡ length v) × (written M (s ∷ []) p ≡ v)
 
-  pub walk_steps : (next k : ℕ) → ◌≡◌ {A = Result (ℕ × ℕ) ℕ} (Ok (next, k)) (walked M (s ∷ []) p) → Stepped next k
+  pub walk_steps : (next k : ℕ) → Some (next, k) ≡ result_ok (walked M (s ∷ []) p) → Stepped next k
   unfolding run position written
   walk_steps next k e = go (M.step p s) refl e
     where
       go : (o : Option (ℕ × List ℕ)) → M.step p s ≡ o
-          → ◌≡◌ {A = Result (ℕ × ℕ) ℕ} (Ok (next, k)) (end_of (or_else o 0 (λ r. 1 + 0)) (and_then o (λ r. moved r.1 (Some (r.0, [])))))
+          → Some (next, k) ≡ result_ok (end_of (or_else o 0 (λ r. 1 + 0)) (and_then o (λ r. moved r.1 (Some (r.0, [])))))
           → Stepped next k
       go None f h = absurd (grind arith)
       go (Some (r, v)) f h =
-          let parts = ok_parts (next, k) (r, length (v ++ [])) h in
+          let parts = some_parts (next, k) (r, length (v ++ [])) h in
           (v, f ∙ ap (λ n. Some (n, v)) (sym parts.0), parts.1 ∙ ap length (append-nil v), ap (λ o. or_else o [] (λ r. r.1 ++ [])) f ∙ append-nil v)
 
-  pub walk_stuck : (i : ℕ) → ◌≡◌ {A = Result (ℕ × ℕ) ℕ} (Err i) (walked M (s ∷ []) p) → M.step p s ≡ None
+  pub walk_stuck : None ≡ result_ok (walked M (s ∷ []) p) → M.step p s ≡ None
   unfolding run position written
-  walk_stuck i e = go (M.step p s) refl e
+  walk_stuck e = go (M.step p s) refl e
     where
       go : (o : Option (ℕ × List ℕ)) → M.step p s ≡ o
-          → ◌≡◌ {A = Result (ℕ × ℕ) ℕ} (Err i) (end_of (or_else o 0 (λ r. 1 + 0)) (and_then o (λ r. moved r.1 (Some (r.0, [])))))
+          → None ≡ result_ok (end_of (or_else o 0 (λ r. 1 + 0)) (and_then o (λ r. moved r.1 (Some (r.0, [])))))
           → M.step p s ≡ None
       go None f h = f
       go (Some r) f h = absurd (grind arith)

@@ -5,7 +5,6 @@ ghost use Rattle.std.specs.Prelude.{◌≡◌, ◌*◌, ◌<◌, ◌≤◌, leng
 ghost use Rattle.std.specs.List.{AllByRecursion};
 ghost use Rattle.alphabet.specs.Model.{SoundTerm};
 ghost use Rattle.table.specs.Table.{table_of};
-ghost use Rattle.table.specs.Sound.{Sound};
 ghost use Rattle.machine.specs.Machine.{run};
 ghost use Rattle.filter.specs.Machines.{values_of, machine_of};
 ghost use Rattle.join_laws.specs.Joined.{final_at};
@@ -13,7 +12,7 @@ ghost use Rattle.join_finals.specs.Finals.{Ran, Ends};
 
 use alphabet::Alphabet;
 use filter::walk::{finish, walk};
-use table::{Draft, final_total};
+use table::{Filter, final_total};
 
 // The most symbols that the final outputs of a pair can have: 32 of the first filter's, each written as 32, and 32 more.
 pub const MOST_SYMBOLS: usize = 1056;
@@ -21,16 +20,15 @@ pub const MOST_SYMBOLS: usize = 1056;
 // Steps a filter from a state over the symbols that constant terms give, and answers the state reached and the number
 // of symbols written; or none where it has no move.
 fn run_constants<A: Alphabet>(
-    second: &Draft<'_, A>,
+    second: &Filter<'_, A>,
     terms: &[A::Term],
     start: u16,
     out: &mut [u32],
 ) -> Option<(u16, usize)>
-    requires second { Sound A.model (table_of second.now) }
     requires terms { AllByRecursion (SoundTerm A.model) terms.now }
     requires few { length terms.now ≤ 32 }
     requires room { 1056 ≤ length out.old }
-    ensures ran { Ran (run (machine_of A.model (table_of second.now)) (values_of A.model terms.now 0) start) out.new 1024 result }
+    ensures ran { Ran (run (machine_of A.model (table_of second.now.draft)) (values_of A.model terms.now 0) start) out.new 1024 result }
 {
     let mut state = start;
     let mut count = 0;
@@ -39,9 +37,7 @@ fn run_constants<A: Alphabet>(
         let Some(symbol) = A::value(*term, 0) else {
             continue;
         };
-        let Ok((next, written)) = walk(second, state, &[symbol], &mut out[count..]) else {
-            return None;
-        };
+        let (next, written) = walk(second, state, &[symbol], &mut out[count..]).ok()?;
         state = next;
         count += written;
     }
@@ -50,29 +46,29 @@ fn run_constants<A: Alphabet>(
 
 // Writes the final output of a pair to the front of a buffer and answers its length, or none where the pair rejects.
 pub fn final_of<A: Alphabet>(
-    first: &Draft<'_, A>,
-    second: &Draft<'_, A>,
+    first: &Filter<'_, A>,
+    second: &Filter<'_, A>,
     pair: (u16, u16),
     out: &mut [u32],
 ) -> Option<usize>
-    requires first { Sound A.model (table_of first.now) }
-    requires second { Sound A.model (table_of second.now) }
     requires room { 1056 ≤ length out.old }
-    ensures { Ends (final_at A.model (table_of first.now) (table_of second.now) pair) out.new result }
+    ensures { Ends (final_at A.model (table_of first.now.draft) (table_of second.now.draft) pair) out.new result }
 {
     let state = pair.0 as usize;
-    if state >= first.states.len() {
+    if state >= first.draft.states.len() {
         return None;
     }
-    let entry = first.states[state];
+    let entry = first.draft.states[state];
     if entry.mark != 1 {
         return None;
     }
-    let from = final_total(&first.states[0..state]);
+    let from = final_total(&first.draft.states[0..state]);
     let to = from + entry.finals as usize;
-    let Some((reached, count)) = run_constants(second, &first.outputs[from..to], pair.1, &mut *out)
-    else {
-        return None;
-    };
+    let (reached, count) = run_constants(
+        second,
+        &first.draft.outputs[from..to],
+        pair.1,
+        &mut *out,
+    )?;
     finish(second, reached, out, count)
 }

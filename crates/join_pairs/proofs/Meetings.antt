@@ -1,22 +1,24 @@
 -- One turn of the search for a pair, and of numbering rules.
-use Rattle.std.proofs.Common.{◌≡◌, ℕ, ◌+◌, ◌<◌, ◌≤◌, true, false, cond, ◌&&◌, eqb, ltb, List, [], ◌∷◌, ◌++◌, map, length, get_or, take, drop, set, Ok, Err, Result, sym, refl, ap, ◌∙◌, subst, append_assoc, arith}
-use Rattle.std.specs.List.{AllByRecursion}
-use Rattle.std.proofs.lemmas.List.{at_drop_more, at_drop_all, drop_more, take_more, map-append, length-append, length-map, length-take-le, take-append-drop, set_at, get_or_at, take_all, drop_all, append-nil}
+use Rattle.std.proofs.Common.{◌≡◌, ℕ, ◌+◌, ◌<◌, ◌≤◌, cond, ◌&&◌, eqb, ltb, List, [], ◌∷◌, ◌++◌, map, length, get_or, take, drop, set, Some, None, Ok, Err, Result, sym, refl, ap, ◌∙◌, subst, append_assoc, arith}
+use Rattle.std.specs.List.{AllByRecursion, position_or_len}
+use Rattle.std.proofs.lemmas.List.{drop_more, take_more, map-append, length-append, length-map, length-take-le, take-append-drop, set_at, get_or_at, take_all, drop_all, append-nil}
 use Rattle.std.proofs.lemmas.Bool.Decides.{nat_tests}
 use Rattle.table.specs.declared.entries.Rule.{Rule}
 use Rattle.join_laws.specs.Pairs.{Pair, place, met, met_all}
 use Rattle.join_laws.proofs.Places.{In, Begins, met_new, place_new, begins_place, met_begins, met_all_begins, met_all_in, met_all_append, begins_length}
-use Rattle.join_pairs.specs.Meets.{targets_of, renumbered}
+use Rattle.join_pairs.specs.Meets.{known, targets_of, renumbered}
 
--- the search goes on behind a pair that is another
-pub place_later : (P : List Pair) (x : Pair) (i : ℕ) → i < length P → (eqb (get_or P i (0, 0)).0 x.0 && eqb (get_or P i (0, 0)).1 x.1) ≡ false → i + place (drop i P) x ≡ (i + 1) + place (drop (i + 1) P) x
-place_later P x i h e = let k = at_drop_more (λ l. place l x) P i (0, 0) h in grind (arith, nat_tests)
+-- the library's search finds the place
+pub place_position : (P : List Pair) (x : Pair) → position_or_len (λ (y : Pair). eqb y.0 x.0 && eqb y.1 x.1) P ≡ place P x
+place_position [] x = refl
+place_position (y ∷ P) x = let e = place_position P x in grind (arith, nat_tests)
 
-pub place_here : (P : List Pair) (x : Pair) (i : ℕ) → i < length P → (eqb (get_or P i (0, 0)).0 x.0 && eqb (get_or P i (0, 0)).1 x.1) ≡ true → i + place (drop i P) x ≡ i
-place_here P x i h e = let k = at_drop_more (λ l. place l x) P i (0, 0) h in grind (arith, nat_tests)
+-- a pair that was met has its place, and one that was not has none
+pub meets_known : (P : List Pair) (x : Pair) (room n : ℕ) → known P x ≡ Some n → length P ≤ room → (P ≡ met P x) × (n ≡ place P x) × (length P ≤ room)
+meets_known P x room n e h = (grind (arith, nat_tests), grind (arith, nat_tests), h)
 
-pub place_end : (P : List Pair) (x : Pair) (i : ℕ) → length P ≤ i → i + place (drop i P) x ≡ i
-place_end P x i h = let k = at_drop_all (λ l. place l x) P i h in grind (arith, nat_tests)
+pub unknown_new : (P : List Pair) (x : Pair) → known P x ≡ None → length P ≤ place P x
+unknown_new P x e = grind (arith, nat_tests)
 
 module _ {G : Type 0} (p : ℕ) (P₀ : List Pair) (rules₀ : List (Rule G)) where
   -- the first i rules are numbered

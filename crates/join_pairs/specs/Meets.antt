@@ -1,8 +1,12 @@
 -- Meeting pairs: what a queue of pairs holds then, and which numbers rules get.
-use Rattle.std.specs.Prelude.{◌≡◌, ℕ, ◌<◌, ◌≤◌, List, map, length, Ok, Err, Result}
+use Rattle.std.specs.Prelude.{◌≡◌, ℕ, ◌<◌, ◌≤◌, cond, List, map, length, Some, None, Ok, Err, Option, Result, nat_lt}
 use Rattle.table.specs.declared.entries.Rule.{Rule}
 use Rattle.join_laws.specs.Pairs.{Pair, place, met, met_all}
 use Rattle.join_ways.specs.declared.write.TooLarge.{TooLarge}
+
+-- the number of a pair, if it was met
+abbrev pub known : List Pair → Pair → Option ℕ
+known P x = cond (nat_lt (place P x) (length P)) (Some (place P x)) None
 
 -- the pair was met and has this number; or there is no room for it
 abbrev pub Meets : List Pair → Pair → ℕ → List Pair → Result ℕ TooLarge → Type 0

@@ -3,8 +3,7 @@
 
 ghost use Rattle.std.specs.Prelude.{◌≡◌, ◌≤◌, length};
 ghost use Rattle.queue.specs.Held.{entries, room};
-ghost use Rattle.join_laws.specs.Pairs.{place};
-ghost use Rattle.join_pairs.specs.Meets.{Meets, Numbers};
+ghost use Rattle.join_pairs.specs.Meets.{known, Meets, Numbers};
 
 use join_ways::TooLarge;
 use queue::Queue;
@@ -13,16 +12,11 @@ use table::Rule;
 // A state of the first filter and one of the second.
 pub type Pair = (u16, u16);
 
-// The number of a pair, or how many pairs there are where it has none.
-fn place_of(pairs: &[Pair], pair: Pair) -> usize
-    ensures { result ≡ place pairs.now pair }
+// The number of a pair, or none where it was not met yet.
+fn place_of(pairs: &[Pair], pair: Pair) -> Option<usize>
+    ensures { result ≡ known pairs.now pair }
 {
-    for (number, other) in pairs.iter().enumerate() {
-        if other.0 == pair.0 && other.1 == pair.1 {
-            return number;
-        }
-    }
-    pairs.len()
+    pairs.iter().position(|other| *other == pair)
 }
 
 // Meets a pair: answers its number, a new one at the end of the queue where it had none.
@@ -32,14 +26,11 @@ pub fn meet(queue: &mut Queue<'_, Pair>, pair: Pair) -> Result<usize, TooLarge>
     ensures taken { queue.new.taken ≡ queue.old.taken }
     ensures room { room queue.new ≡ room queue.old }
 {
-    let number = place_of(queue.entries(), pair);
-    if number < queue.made() {
+    if let Some(number) = place_of(queue.entries(), pair) {
         return Ok(number);
     }
-    match queue.push(pair) {
-        Ok(new) => Ok(new),
-        Err(_) => Err(TooLarge),
-    }
+    let new = queue.push(pair)?;
+    Ok(new)
 }
 
 // Meets the pairs that rules lead to, where the first filter goes to a state, and gives the rules their numbers.
@@ -54,15 +45,8 @@ pub fn number_targets<G: Copy>(
     ensures taken { queue.new.taken ≡ queue.old.taken }
     ensures room { room queue.new ≡ room queue.old }
 {
-    for i in 0..rules.len() {
-        let rule = rules[i];
-        let number = meet(queue, (first, rule.next))?;
-        rules[i] = Rule {
-            state: rule.state,
-            next: number as u16,
-            outputs: rule.outputs,
-            guard: rule.guard,
-        };
+    for rule in rules.iter_mut() {
+        rule.next = meet(queue, (first, rule.next))? as u16;
     }
     Ok(())
 }

@@ -2,10 +2,8 @@
 #![tactic(auto)]
 
 ghost use Rattle.std.specs.Prelude.{◌≡◌, ◌<◌, ◌≤◌, [], ◌∷◌, map, length};
-ghost use Rattle.std.specs.List.{AllByRecursion};
-ghost use Rattle.alphabet.specs.Model.{SoundGuard, SoundTerm};
-ghost use Rattle.table.specs.Table.{table_of, final_total_of};
-ghost use Rattle.table.specs.Sound.{Sound};
+ghost use Rattle.alphabet.specs.Model.{SoundGuard};
+ghost use Rattle.table.specs.Table.{table_of};
 ghost use Rattle.queue.specs.Held.{entries, room};
 ghost use Rattle.join_laws.specs.Lines.{lines_of};
 ghost use Rattle.join_laws.specs.Ways.{ways};
@@ -16,7 +14,7 @@ use alphabet::Alphabet;
 use join_pairs::{Pair, number_targets};
 use join_ways::{Counts, Course, Span, TooLarge, add_ways};
 use queue::Queue;
-use table::{Draft, Rule, final_total};
+use table::{Filter, Rule, final_total};
 
 // Writes the ways that follow a rule of the first filter, and meets the pairs that they lead to where the first goes on
 // to a state.
@@ -31,16 +29,13 @@ fn add_line<A: Alphabet>(
     outputs: &mut [A::Term],
     counts: Counts,
 ) -> Result<Counts, TooLarge>
-    requires second { Sound A.model (table_of course.now.second.now) }
-    requires first { course.now.first ≡ final_total_of course.now.second.now.states.now }
-    requires terms { AllByRecursion (SoundTerm A.model) course.now.terms.now }
     requires guard { SoundGuard A.model guard }
     requires fits { length (entries queue.old) ≤ room queue.old }
     requires few { room queue.old ≤ 64 }
     requires path { length course.now.terms.now ≤ length path.old }
     requires rules { counts.rules ≤ length rules.old }
     requires outputs { counts.outputs ≤ length outputs.old }
-    ensures takes { Takes course.now.number (map (aimed next) (ways A.model (lines_of (table_of course.now.second.now)) course.now.terms.now state guard)) (entries queue.old) (room queue.old) counts rules.old outputs.old (entries queue.new) rules.new outputs.new result }
+    ensures takes { Takes course.now.number (map (aimed next) (ways A.model (lines_of (table_of course.now.second.now.draft)) course.now.terms.now state guard)) (entries queue.old) (room queue.old) counts rules.old outputs.old (entries queue.new) rules.new outputs.new result }
     ensures taken { queue.new.taken ≡ queue.old.taken }
     ensures room { room queue.new ≡ room queue.old }
 {
@@ -53,8 +48,8 @@ fn add_line<A: Alphabet>(
 
 // Writes the rules of a pair behind those that are counted, and meets the pairs that they lead to.
 fn add_pair<'x, A: Alphabet>(
-    first: &'x Draft<'x, A>,
-    second: &'x Draft<'x, A>,
+    first: &'x Filter<'x, A>,
+    second: &'x Filter<'x, A>,
     pair: Pair,
     number: u16,
     queue: &mut Queue<'_, Pair>,
@@ -63,28 +58,26 @@ fn add_pair<'x, A: Alphabet>(
     outputs: &mut [A::Term],
     counts: Counts,
 ) -> Result<Counts, TooLarge>
-    requires first { Sound A.model (table_of first.now) }
-    requires second { Sound A.model (table_of second.now) }
     requires fits { length (entries queue.old) ≤ room queue.old }
     requires few { room queue.old ≤ 64 }
     requires path { 32 ≤ length path.old }
     requires rules { counts.rules ≤ length rules.old }
     requires outputs { counts.outputs ≤ length outputs.old }
-    ensures takes { Takes number (ways_at A.model (table_of first.now) (table_of second.now) pair) (entries queue.old) (room queue.old) counts rules.old outputs.old (entries queue.new) rules.new outputs.new result }
+    ensures takes { Takes number (ways_at A.model (table_of first.now.draft) (table_of second.now.draft) pair) (entries queue.old) (room queue.old) counts rules.old outputs.old (entries queue.new) rules.new outputs.new result }
     ensures taken { queue.new.taken ≡ queue.old.taken }
     ensures room { room queue.new ≡ room queue.old }
 {
-    let begins = final_total(second.states);
-    let mut start = final_total(first.states);
+    let begins = final_total(second.draft.states);
+    let mut start = final_total(first.draft.states);
     let mut so_far = counts;
-    for rule in first.rules {
+    for rule in first.draft.rules {
         let from = start;
         start = from + rule.outputs as usize;
         if rule.state == pair.0 {
             let course = Course {
                 second,
                 first: begins,
-                terms: &first.outputs[from..start],
+                terms: &first.draft.outputs[from..start],
                 number,
             };
             so_far = add_line(
@@ -97,21 +90,19 @@ fn add_pair<'x, A: Alphabet>(
 
 // Takes the waiting pairs, those that are met on the way too, and writes their rules.
 pub fn explore<'x, A: Alphabet>(
-    first: &'x Draft<'x, A>,
-    second: &'x Draft<'x, A>,
+    first: &'x Filter<'x, A>,
+    second: &'x Filter<'x, A>,
     queue: &mut Queue<'_, Pair>,
     path: &mut [Span],
     rules: &mut [Rule<A::Guard>],
     outputs: &mut [A::Term],
 ) -> Result<Counts, TooLarge>
-    requires first { Sound A.model (table_of first.now) }
-    requires second { Sound A.model (table_of second.now) }
     requires start { entries queue.old ≡ (0, 0) ∷ [] }
     requires waits { queue.old.taken ≡ 0 }
     requires fits { 1 ≤ room queue.old }
     requires few { room queue.old ≤ 64 }
     requires path { 32 ≤ length path.old }
-    ensures explores { Explores A.model (table_of first.now) (table_of second.now) (room queue.old) rules.old outputs.old (entries queue.new) rules.new outputs.new result }
+    ensures explores { Explores A.model (table_of first.now.draft) (table_of second.now.draft) (room queue.old) rules.old outputs.old (entries queue.new) rules.new outputs.new result }
     ensures room { room queue.new ≡ room queue.old }
 {
     let mut counts = Counts {

@@ -4,7 +4,6 @@
 ghost use Rattle.std.specs.Prelude.{◌≡◌, ◌<◌, ◌≤◌, map, length};
 ghost use Rattle.std.specs.List.{AllByRecursion};
 ghost use Rattle.table.specs.Table.{table_of};
-ghost use Rattle.table.specs.Sound.{Sound};
 ghost use Rattle.join_laws.specs.Joined.{final_at};
 ghost use Rattle.join_ways.specs.Written.{Wrote};
 ghost use Rattle.join_states.specs.Ended.{Ended, EndedAll};
@@ -12,7 +11,7 @@ ghost use Rattle.join_states.specs.Ended.{Ended, EndedAll};
 use alphabet::Alphabet;
 use join_finals::{MOST_SYMBOLS, final_of};
 use join_ways::TooLarge;
-use table::{Draft, State};
+use table::{Filter, State};
 
 // The most final outputs of one state.
 const MOST_AT_ONCE: usize = 32;
@@ -40,16 +39,14 @@ fn write_constants<A: Alphabet>(
 
 // Writes the final output of a pair from a place on, and answers its state and the place behind it.
 fn add_state<A: Alphabet>(
-    first: &Draft<'_, A>,
-    second: &Draft<'_, A>,
+    first: &Filter<'_, A>,
+    second: &Filter<'_, A>,
     pair: (u16, u16),
     outputs: &mut [A::Term],
     at: usize,
 ) -> Result<(State, usize), TooLarge>
-    requires first { Sound A.model (table_of first.now) }
-    requires second { Sound A.model (table_of second.now) }
     requires at { at ≤ length outputs.old }
-    ensures { Ended A.model at (final_at A.model (table_of first.now) (table_of second.now) pair) outputs.old outputs.new result }
+    ensures { Ended A.model at (final_at A.model (table_of first.now.draft) (table_of second.now.draft) pair) outputs.old outputs.new result }
 {
     let mut symbols = [0; MOST_SYMBOLS];
     let Some(count) = final_of(first, second, pair, &mut symbols) else {
@@ -68,18 +65,16 @@ fn add_state<A: Alphabet>(
 
 // Writes the states of all pairs, and their final outputs from a place on; answers the place behind them.
 pub fn add_states<A: Alphabet>(
-    first: &Draft<'_, A>,
-    second: &Draft<'_, A>,
+    first: &Filter<'_, A>,
+    second: &Filter<'_, A>,
     pairs: &[(u16, u16)],
     states: &mut [State],
     outputs: &mut [A::Term],
     at: usize,
 ) -> Result<usize, TooLarge>
-    requires first { Sound A.model (table_of first.now) }
-    requires second { Sound A.model (table_of second.now) }
     requires states { length pairs.now ≤ length states.old }
     requires at { at ≤ length outputs.old }
-    ensures { EndedAll A.model at (map (final_at A.model (table_of first.now) (table_of second.now)) pairs.now) states.old states.new outputs.old outputs.new result }
+    ensures { EndedAll A.model at (map (final_at A.model (table_of first.now.draft) (table_of second.now.draft)) pairs.now) states.old states.new outputs.old outputs.new result }
 {
     let mut place = at;
     for (number, pair) in pairs.iter().enumerate() {

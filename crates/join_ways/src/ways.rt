@@ -1,27 +1,17 @@
 // The ways through a filter along output terms, each written as a rule.
 ghost use Rattle.std.specs.Prelude.{◌≡◌, ◌+◌, ◌≤◌, [], ◌∷◌, map, length, take, drop};
 ghost use Rattle.std.specs.List.{AllByRecursion};
-ghost use Rattle.alphabet.specs.Model.{SoundGuard, SoundTerm};
-ghost use Rattle.table.specs.Table.{table_of, final_total_of};
-ghost use Rattle.table.specs.Sound.{Sound};
+ghost use Rattle.alphabet.specs.Model.{SoundGuard};
+ghost use Rattle.table.specs.Table.{table_of};
 ghost use Rattle.join_laws.specs.Lines.{lines_of};
 ghost use Rattle.join_laws.specs.Ways.{ways as ways_from};
 ghost use Rattle.join_ways.specs.Paths.{within, SoundSpan, along, raw_line, whole_line};
 ghost use Rattle.join_ways.specs.Added.{Adds};
 
+use crate::course::Course;
 use crate::write::{Counts, MOST_AT_ONCE, Span, TooLarge, write_along};
 use alphabet::Alphabet;
-use table::{Draft, Rule};
-
-// What the ways lead through: the second filter, the place of its first rule's outputs, the terms that are taken, and
-// the number of the state whose rules the ways become.
-#[derive(Drop)]
-pub struct Course<'a, A: Alphabet> {
-    pub second: &'a Draft<'a, A>,
-    pub first: usize,
-    pub terms: &'a [A::Term],
-    pub number: u16,
-}
+use table::Rule;
 
 // Writes a complete way as a rule to a state, with its outputs.
 fn add_rule<A: Alphabet>(
@@ -33,15 +23,15 @@ fn add_rule<A: Alphabet>(
     outputs: &mut [A::Term],
     counts: Counts,
 ) -> Result<Counts, TooLarge>
-    requires terms { AllByRecursion (SoundTerm A.model) course.now.terms.now }
     requires path { length path.now ≡ length course.now.terms.now }
-    requires spans { AllByRecursion (SoundSpan A.model course.now.second.now.outputs.now) path.now }
+    requires spans { AllByRecursion (SoundSpan A.model course.now.second.now.draft.outputs.now) path.now }
     requires rules { counts.rules ≤ length rules.old }
     requires outputs { counts.outputs ≤ length outputs.old }
-    ensures { Adds counts (whole_line course.now.number (along A.model course.now.terms.now (map (within course.now.second.now.outputs.now) path.now)) state guard ∷ []) rules.old rules.new outputs.old outputs.new result }
+    ensures { Adds counts (whole_line course.now.number (along A.model course.now.terms.now (map (within course.now.second.now.draft.outputs.now) path.now)) state guard ∷ []) rules.old rules.new outputs.old outputs.new result }
 {
     let from = counts.outputs;
-    let to = write_along::<A>(course.terms, course.second.outputs, path, outputs, from)?;
+    let second = course.second;
+    let to = write_along::<A>(course.terms, second.draft.outputs, path, outputs, from)?;
     let count = to - from;
     if count > MOST_AT_ONCE || counts.rules >= rules.len() {
         return Err(TooLarge);
@@ -70,16 +60,13 @@ pub fn add_ways<A: Alphabet>(
     outputs: &mut [A::Term],
     counts: Counts,
 ) -> Result<Counts, TooLarge>
-    requires second { Sound A.model (table_of course.now.second.now) }
-    requires first { course.now.first ≡ final_total_of course.now.second.now.states.now }
-    requires terms { AllByRecursion (SoundTerm A.model) course.now.terms.now }
     requires depth { depth ≤ length course.now.terms.now }
     requires path { length course.now.terms.now ≤ length path.old }
-    requires spans { AllByRecursion (SoundSpan A.model course.now.second.now.outputs.now) (take depth path.old) }
+    requires spans { AllByRecursion (SoundSpan A.model course.now.second.now.draft.outputs.now) (take depth path.old) }
     requires guard { SoundGuard A.model guard }
     requires rules { counts.rules ≤ length rules.old }
     requires outputs { counts.outputs ≤ length outputs.old }
-    ensures adds { Adds counts (map (raw_line course.now.number (along A.model (take depth course.now.terms.now) (map (within course.now.second.now.outputs.now) (take depth path.old)))) (ways_from A.model (lines_of (table_of course.now.second.now)) (drop depth course.now.terms.now) state guard)) rules.old rules.new outputs.old outputs.new result }
+    ensures adds { Adds counts (map (raw_line course.now.number (along A.model (take depth course.now.terms.now) (map (within course.now.second.now.draft.outputs.now) (take depth path.old)))) (ways_from A.model (lines_of (table_of course.now.second.now.draft)) (drop depth course.now.terms.now) state guard)) rules.old rules.new outputs.old outputs.new result }
     ensures keeps { take depth path.new ≡ take depth path.old }
 {
     if depth >= course.terms.len() {
@@ -97,7 +84,7 @@ pub fn add_ways<A: Alphabet>(
     let term = course.terms[depth];
     let mut so_far = counts;
     let mut start = course.first;
-    for rule in second.rules {
+    for rule in second.draft.rules {
         let from = start;
         start = from + rule.outputs as usize;
         if rule.state == state {

@@ -8,11 +8,19 @@ ghost use Rattle.join_ways.specs.Paths.{within, SoundSpan, along};
 ghost use Rattle.join_ways.specs.Added.{Adds};
 
 use alphabet::Alphabet;
+use queue::Full;
 use table::Rule;
 
 // The joined filter is over a limit, or over a list that was handed in.
 #[derive(Clone, Copy)]
 pub struct TooLarge;
+
+// The queue of the pairs is full.
+impl From<Full> for TooLarge {
+    fn from(_full: Full) -> TooLarge {
+        TooLarge
+    }
+}
 
 // A stretch of an output list.
 #[derive(Clone, Copy)]

@@ -1,14 +1,12 @@
 // The sizes of a comparison.
 ghost use Rattle.table.specs.Table.{table_of};
-ghost use Rattle.table.specs.Sound.{Sound};
 ghost use Rattle.judging.specs.Frames.{Framed, width_of};
 ghost use Rattle.std.specs.Prelude.{◌≡◌};
 
 use alphabet::Alphabet;
 use replay::longest;
-use replay::sizes::larger;
 use steps::steps_needed;
-use table::{Draft, final_total};
+use table::{Filter, final_total};
 
 // For filters with `left` and `right` states: where the outputs of their rules begin, the longest output of either, and
 // how many symbols one of them may write for a text.
@@ -23,20 +21,18 @@ pub struct Frame {
 }
 
 // The frame of two filters.
-pub fn frame_of<A: Alphabet>(left: &Draft<'_, A>, right: &Draft<'_, A>) -> Frame
-    requires left { Sound A.model (table_of left.now) }
-    requires right { Sound A.model (table_of right.now) }
-    ensures framed { Framed (table_of left.now) (table_of right.now) result }
-    ensures width { result.width ≡ width_of (table_of left.now) (table_of right.now) }
+pub fn frame_of<A: Alphabet>(left: &Filter<'_, A>, right: &Filter<'_, A>) -> Frame
+    ensures framed { Framed (table_of left.now.draft) (table_of right.now.draft) result }
+    ensures width { result.width ≡ width_of (table_of left.now.draft) (table_of right.now.draft) }
 {
-    let p = left.states.len();
-    let q = right.states.len();
-    let width = larger(1, larger(longest(left), longest(right)));
+    let p = left.draft.states.len();
+    let q = right.draft.states.len();
+    let width = longest(&left.draft).max(longest(&right.draft)).max(1);
     Frame {
         left: p,
         right: q,
-        left_first: final_total(left.states),
-        right_first: final_total(right.states),
+        left_first: final_total(left.draft.states),
+        right_first: final_total(right.draft.states),
         width,
         room: (steps_needed(p, q) + 1) * width,
     }

@@ -9,7 +9,7 @@ ghost use Rattle.judging.specs.Kept.{Going, Extends, Judged};
 use crate::frame::Frame;
 use alphabet::Alphabet;
 use replay::same_lags;
-use steps::{Step, find};
+use steps::{Step, Visit, find};
 use table::Draft;
 
 // Whether the two filters have the same lag after the texts of two steps. The four outputs stand one behind another.
@@ -39,15 +39,12 @@ fn lags_alike<A: Alphabet>(
 fn both_live(left: Option<u16>, right: Option<u16>) -> bool
     ensures { result ≡ both_live_lem left right }
 {
-    match (left, right) {
-        (Some(_), Some(_)) => true,
-        _ => false,
-    }
+    left.is_some() && right.is_some()
 }
 
 // Whether the text of a step, which goes on from one of the steps, is worth a step: at its pair's first visit; or, if
 // both sides have a state, at the second, where the lag differs from the first one's. Answers none where it is covered,
-// else whether it is a second visit.
+// else which visit it is.
 pub fn judge<A: Alphabet>(
     left: &Draft<'_, A>,
     right: &Draft<'_, A>,
@@ -56,7 +53,7 @@ pub fn judge<A: Alphabet>(
     cells: &[u32],
     next: Step,
     outputs: &mut [u32],
-) -> Option<bool>
+) -> Option<Visit>
     requires framed { Framed (table_of left.now) (table_of right.now) frame }
     requires going { Going A.model (table_of left.now) (table_of right.now) frame.left frame.right frame.width steps.now cells.now next.parent next.symbol }
     requires extends { Extends A.model (table_of left.now) (table_of right.now) frame.left frame.right frame.width steps.now next }
@@ -71,17 +68,35 @@ pub fn judge<A: Alphabet>(
         room,
         ..
     } = frame;
-    let Some(first) = find(steps, cells, p, q, next.left.state, next.right.state, false) else {
-        return Some(false);
+    let Some(first) = find(
+        steps,
+        cells,
+        p,
+        q,
+        next.left.state,
+        next.right.state,
+        Visit::First,
+    ) else {
+        return Some(Visit::First);
     };
     if !both_live(next.left.state, next.right.state) {
         return None;
     }
-    if let Some(_) = find(steps, cells, p, q, next.left.state, next.right.state, true) {
+    if find(
+        steps,
+        cells,
+        p,
+        q,
+        next.left.state,
+        next.right.state,
+        Visit::Second,
+    )
+    .is_some()
+    {
         return None;
     }
     if lags_alike(left, right, room, steps, steps[first], next, outputs) {
         return None;
     }
-    Some(true)
+    Some(Visit::Second)
 }

@@ -3,5 +3,7 @@
 
 pub mod frame;
 pub mod judge;
+pub mod pair;
 
 pub use frame::{Frame, frame_of};
+pub use pair::FilterPair;

@@ -36,10 +36,8 @@ fn goes_into(guard: MarkSet, term: MarkTerm, into: MarkSet, mark: u32) -> bool
     requires into { SoundGuard marks into }
     ensures { result ≡ goes_into_lem guard term into mark }
 {
-    match Marks::value(term, mark) {
-        Some(value) => Marks::holds(guard, mark) && Marks::holds(into, value),
-        None => false,
-    }
+    Marks::value(term, mark).is_some_and(|value| Marks::holds(guard, mark)
+        && Marks::holds(into, value))
 }
 
 impl Alphabet for Marks {
@@ -76,11 +74,12 @@ impl Alphabet for Marks {
 
     // No guard holds a number from 37 on, so the search ends there.
     fn first_outside(guard: MarkSet, from: u32) -> u32 {
-        let mut mark = from;
-        while Self::holds(guard, mark) {
-            mark += 1;
+        for mark in from..SIZE {
+            if !Self::holds(guard, mark) {
+                return mark;
+            }
         }
-        mark
+        from.max(SIZE)
     }
 
     fn check_term(term: MarkTerm) -> Result<(), Cause> {
@@ -124,10 +123,9 @@ impl Alphabet for Marks {
 
     fn followed(first: MarkTerm, second: MarkTerm) -> Option<MarkTerm> {
         match (first, second) {
-            (MarkTerm::Constant(mark), _) => match Self::value(second, mark) {
-                Some(value) => Some(MarkTerm::Constant(value)),
-                None => None,
-            },
+            (MarkTerm::Constant(mark), _) => {
+                Self::value(second, mark).map(|value| MarkTerm::Constant(value))
+            }
             (MarkTerm::Turn { .. }, MarkTerm::Constant(mark)) => Some(MarkTerm::Constant(mark)),
             (
                 MarkTerm::Turn {
@@ -154,10 +152,6 @@ impl Alphabet for Marks {
                 bits |= 1 << mark;
             }
         }
-        if bits == 0 {
-            None
-        } else {
-            Some(MarkSet { bits })
-        }
+        (bits != 0).then_some(MarkSet { bits })
     }
 }

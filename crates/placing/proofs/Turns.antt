@@ -1,7 +1,7 @@
 -- Loops over the holdings of a shelf that look for the lowest of a kind.
 use Rattle.std.proofs.Common.{◌≡◌, ℕ, ◌+◌, ◌<◌, ◌≤◌, Bool, true, false, Decides, sym, refl, subst, arith, below_more}
 use Rattle.table.specs.Table.{Table}
-use Rattle.shelf_holdings.specs.Memory.{Memory, holding}
+use Rattle.holdings.specs.Memory.{Memory, holding}
 use Rattle.shelf_law.specs.Holdings.{NoHolding, Lowest}
 
 module _ {G T : Type 0} (M : Memory G T) (P : Table G T → Type 0) (i : ℕ) (below : (j : ℕ) → j < i → P (holding M j) → ⊥) where

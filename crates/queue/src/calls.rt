@@ -1,4 +1,4 @@
-ghost use Rattle.std.specs.Prelude.{◌≡◌, ◌+◌, ◌<◌, [], ◌∷◌, ◌++◌, length, drop, is_some, is_ok, if◌then◌else◌, slice_index_or};
+ghost use Rattle.std.specs.Prelude.{◌≡◌, ◌+◌, ◌<◌, [], ◌∷◌, ◌++◌, length, drop, is_some, is_ok, if◌then◌else◌};
 ghost use Rattle.queue.specs.Held.{entries, spare, waiting, room, numbered, Next, At};
 
 use crate::store::{Full, Queue};
@@ -56,11 +56,7 @@ impl<'a, T: Copy> Queue<'a, T> {
     pub fn get(&self, number: usize) -> Option<T>
         ensures { At self.now number result }
     {
-        if number < self.made {
-            Some(at(&*self.slots, number))
-        } else {
-            None
-        }
+        self.entries().get(number).copied()
     }
 
     // All entries so far, taken ones too.
@@ -90,11 +86,4 @@ impl<'a, T: Copy> Queue<'a, T> {
     {
         self.made - self.taken
     }
-}
-
-fn at<T: Copy>(items: &[T], i: usize) -> T
-    requires { i < length items.now }
-    ensures { (d : T) → result ≡ slice_index_or items.now i d }
-{
-    items[i]
 }

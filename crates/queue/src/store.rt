@@ -1,6 +1,7 @@
 ghost use Rattle.std.specs.Prelude.{◌≤◌, length};
 
 // The first `made` slots hold the entries in the order in which they came, and the first `taken` of those were taken.
+// The slots are the caller's, who has no heap, so they are a slice with counts and no `Vec`.
 #[derive(Drop)]
 pub struct Queue<'a, T: Copy> {
     pub(crate) slots: &'a mut [T],
@@ -11,5 +12,5 @@ pub struct Queue<'a, T: Copy> {
 }
 
 // No slot is left for an entry.
-#[derive(Clone, Copy)]
+#[derive(Clone, Copy, Debug, PartialEq)]
 pub struct Full;

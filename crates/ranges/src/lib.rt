@@ -24,7 +24,7 @@ pub type CodePoints = Ranges<CODE_POINTS>;
 fn size<const SIZE: u32>() -> u32
     ensures { result ≡ clamped SIZE }
 {
-    SIZE.min(2097152).max(1)
+    SIZE.clamp(1, 2097152)
 }
 
 // The sum of a symbol and a shift, where that is a symbol too.
@@ -56,11 +56,7 @@ fn add(one: i32, other: i32, size: u32) -> Option<RangeTerm>
 fn range_of(low: u32, high: u32) -> Option<Range>
     ensures { result ≡ range_of low high }
 {
-    if low <= high {
-        Some(Range { low, high })
-    } else {
-        None
-    }
+    (low <= high).then_some(Range { low, high })
 }
 
 // The symbols of a range that a shift takes into a second range, or none.
@@ -107,11 +103,7 @@ impl<const SIZE: u32> Alphabet for Ranges<SIZE> {
 
     fn first_inside(guard: Range, from: u32) -> Option<u32> {
         let least = from.max(guard.low);
-        if least <= guard.high {
-            Some(least)
-        } else {
-            None
-        }
+        (least <= guard.high).then_some(least)
     }
 
     fn first_outside(guard: Range, from: u32) -> u32 {
@@ -136,13 +128,7 @@ impl<const SIZE: u32> Alphabet for Ranges<SIZE> {
 
     fn value(term: RangeTerm, symbol: u32) -> Option<u32> {
         match term {
-            RangeTerm::Constant(constant) => {
-                if symbol < size::<SIZE>() {
-                    Some(constant)
-                } else {
-                    None
-                }
-            }
+            RangeTerm::Constant(constant) => { (symbol < size::<SIZE>()).then_some(constant) }
             RangeTerm::Shift(shift) => shifted(symbol, shift, size::<SIZE>()),
         }
     }
@@ -166,10 +152,9 @@ impl<const SIZE: u32> Alphabet for Ranges<SIZE> {
 
     fn followed(first: RangeTerm, second: RangeTerm) -> Option<RangeTerm> {
         match (first, second) {
-            (RangeTerm::Constant(symbol), _) => match Self::value(second, symbol) {
-                Some(value) => Some(RangeTerm::Constant(value)),
-                None => None,
-            },
+            (RangeTerm::Constant(symbol), _) => {
+                Self::value(second, symbol).map(|value| RangeTerm::Constant(value))
+            }
             (RangeTerm::Shift(_), RangeTerm::Constant(symbol)) => Some(RangeTerm::Constant(symbol)),
             (RangeTerm::Shift(one), RangeTerm::Shift(other)) => { add(one, other, size::<SIZE>()) }
         }
@@ -177,13 +162,7 @@ impl<const SIZE: u32> Alphabet for Ranges<SIZE> {
 
     fn narrowed(guard: Range, term: RangeTerm, into: Range) -> Option<Range> {
         match term {
-            RangeTerm::Constant(symbol) => {
-                if Self::holds(into, symbol) {
-                    Some(guard)
-                } else {
-                    None
-                }
-            }
+            RangeTerm::Constant(symbol) => { Self::holds(into, symbol).then_some(guard) }
             RangeTerm::Shift(shift) => { shifted_into(guard, shift, into) }
         }
     }

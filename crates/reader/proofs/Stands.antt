@@ -6,7 +6,7 @@ use Rattle.std.proofs.lemmas.Option.{slice_get-get_or}
 use Rattle.std.proofs.lemmas.Bool.Decides.{nat_tests}
 use Rattle.std.proofs.lemmas.List.Sums.{sum_by_more}
 use Rattle.filter.proofs.Finds.{total_upto}
-use Rattle.shelf_holdings.specs.declared.memory.Entry.{Entry}
+use Rattle.holdings.specs.declared.memory.Entry.{Entry}
 use Rattle.codec_laws.specs.Code.{Code}
 use Rattle.codec_laws.specs.Numbers.{at}
 use Rattle.codec_laws.specs.Entries.{entry_code}

@@ -1,6 +1,6 @@
 -- Where the bodies of a file stand, and their three parts.
 use Rattle.std.specs.Prelude.{ℕ, ◌+◌, ◌*◌, Bool, cond, ◌&&◌, List, length, take, drop, Some, None, sum_by, Option, ◌==◌, nat_le, nat_lt, slice_index_or}
-use Rattle.shelf_holdings.specs.declared.memory.Entry.{Entry}
+use Rattle.holdings.specs.declared.memory.Entry.{Entry}
 use Rattle.codec_laws.specs.Numbers.{at}
 use Rattle.stored_laws.specs.Format.{to_rules, to_outputs_lem, body_size, contents, bodies_at, file_size}
 

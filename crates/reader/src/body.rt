@@ -1,5 +1,5 @@
 // A reader and the bodies that it hands out, all borrowed from the file.
-use shelf_holdings::Entry;
+use holdings::Entry;
 
 // Bytes of a file, and the place at which they begin.
 #[derive(Clone, Copy)]

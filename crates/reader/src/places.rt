@@ -5,7 +5,7 @@ ghost use Rattle.stored_laws.specs.Format.{to_outputs_lem as before_outputs, bod
 ghost use Rattle.reader.specs.Parts.{counts_at_lem, body_at, whole};
 
 use codec::Record;
-use shelf_holdings::Entry;
+use holdings::Entry;
 
 // The bytes of a body in front of its outputs.
 pub(crate) fn to_outputs(entry: Entry) -> usize

@@ -1,7 +1,7 @@
 -- Stripping a common front from two outputs, symbol by symbol.
-use Rattle.std.proofs.Common.{◌≡◌, ℕ, ◌+◌, ◌-◌, ◌<◌, ◌≤◌, Bool, false, List, [], ◌∷◌, length, get_or, take, drop, Decides, sym, refl, ap, ◌∙◌, arith}
-use Rattle.std.proofs.lemmas.List.{drop_more, drop_all}
-use Rattle.std.proofs.lemmas.Bool.{eq-eqb, ne_eqb, both_ways}
+use Rattle.std.proofs.Common.{◌≡◌, ℕ, suc, ◌+◌, Bool, true, false, eqb, List, [], ◌∷◌, drop, refl, ap, ◌∙◌, arith}
+use Rattle.std.specs.List.{prefix_len, zip}
+use Rattle.std.proofs.lemmas.Bool.{eq-eqb, ne_eqb, eqb-true, eqb-false}
 use Rattle.machine.specs.Lag.{lag}
 
 -- nothing is left of one side
@@ -23,41 +23,22 @@ lag_unequal : (a b : ℕ) (x y : List ℕ) → (a ≡ b → ⊥) → lag (a ∷ 
 unfolding lag
 lag_unequal a b x y e = rw (ne_eqb a b e)
 
-module _ (x y : List ℕ) (i : ℕ) where
-  pub lag_past_left : length x ≤ i → lag (drop i x) (drop i y) ≡ (drop i x, drop i y)
-  lag_past_left h = rw (drop_all i x h) (lag_none (drop i y))
+-- how long the longest common front is
+abbrev pub front : List ℕ → List ℕ → ℕ
+front x y = prefix_len (λ (t : ℕ × ℕ). eqb t.0 t.1) (zip x y)
 
-  pub lag_past_right : length y ≤ i → lag (drop i x) (drop i y) ≡ (drop i x, drop i y)
-  lag_past_right h = rw (drop_all i y h) (lag_nothing (drop i x))
+-- what is behind it is the lag
+pub front_rest : (x y : List ℕ) → lag x y ≡ (drop (front x y) x, drop (front x y) y)
+front_rest [] y = lag_none y
+front_rest (a ∷ x) [] = lag_nothing (a ∷ x)
+front_rest (a ∷ x) (b ∷ y) = go (eqb a b) refl (front_rest x y)
+  where
+    go : (t : Bool) → eqb a b ≡ t → lag x y ≡ (drop (front x y) x, drop (front x y) y) → lag (a ∷ x) (b ∷ y) ≡ (drop (front (a ∷ x) (b ∷ y)) (a ∷ x), drop (front (a ∷ x) (b ∷ y)) (b ∷ y))
+    go true e ih =
+        let more : suc (front x y) ≡ 1 + front x y = omega arith in
+        rw e (lag_equal a b x y (eqb-true a b e) ∙ ih ∙ ap (λ k. (drop k (a ∷ x), drop k (b ∷ y))) more)
+    go false e ih = rw e (lag_unequal a b x y (eqb-false a b e))
 
-  module _ (h : i < length x) (k : i < length y) where
-    pub lag_step : get_or x i 0 ≡ get_or y i 0 → lag (drop i x) (drop i y) ≡ lag (drop (i + 1) x) (drop (i + 1) y)
-    lag_step e = rw (drop_more x i 0 h, drop_more y i 0 k) (lag_equal (get_or x i 0) (get_or y i 0) (drop (i + 1) x) (drop (i + 1) y) e)
-
-    pub lag_stop : (get_or x i 0 ≡ get_or y i 0 → ⊥) → lag (drop i x) (drop i y) ≡ (drop i x, drop i y)
-    lag_stop e = rw (drop_more x i 0 h, drop_more y i 0 k) (lag_unequal (get_or x i 0) (get_or y i 0) (drop (i + 1) x) (drop (i + 1) y) e)
-
--- two lags are the same where both sides are
-module _ (x y z w p q r s : List ℕ) (e : lag x y ≡ (p, q)) (f : lag z w ≡ (r, s)) where
-  same_lags_lem : p ≡ r → q ≡ s → lag x y ≡ lag z w
-  same_lags_lem h k = e ∙ ap (λ t. (t, q)) h ∙ ap (λ t. (r, t)) k ∙ sym f
-
-  same_sides : lag x y ≡ lag z w → (p ≡ r) × (q ≡ s)
-  same_sides h =
-      let g = sym e ∙ h ∙ f in
-      (ap (λ (t : List ℕ × List ℕ). t.0) g, ap (λ (t : List ℕ × List ℕ). t.1) g)
-
-  -- the first sides are the same, so that the second ones decide
-  pub second_decides : (b : Bool) → p ≡ r → Decides b (q ≡ s) → Decides b (lag x y ≡ lag z w)
-  second_decides b h d = (λ t. same_lags_lem h (d.0 t), λ l. d.1 (same_sides l).1)
-
-  -- they are not
-  pub first_decides : (b : Bool) → b ≡ false → Decides b (p ≡ r) → Decides b (lag x y ≡ lag z w)
-  first_decides b n d = (λ t. absurd (both_ways b n t), λ l. d.1 (same_sides l).0)
-
--- the lag of the fronts that parts from 0 on show
-pub lag_fronts : (x y p q : List ℕ) (i j : ℕ) → take i x ≡ p → take j y ≡ q → lag (take (i - 0) x) (take (j - 0) y) ≡ lag p q
-lag_fronts x y p q i j e f =
-    let a : i - 0 ≡ i = omega arith in
-    let b : j - 0 ≡ j = omega arith in
-    ap (λ k. lag (take k x) (take (j - 0) y)) a ∙ ap (λ k. lag (take i x) (take k y)) b ∙ ap (λ t. lag t (take j y)) e ∙ ap (lag p) f
+-- the lag of the same outputs
+pub lag_same : (x y p q : List ℕ) → x ≡ p → y ≡ q → lag x y ≡ lag p q
+lag_same x y p q e f = ap (λ t. lag t y) e ∙ ap (lag p) f

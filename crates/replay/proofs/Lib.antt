@@ -1,3 +1,4 @@
 pub mod Outputs
 pub mod Fronts
 pub mod Wholes
+pub mod Lengths

@@ -1,45 +1,33 @@
 // Comparing what two filters write for the texts of steps.
-ghost use Rattle.std.specs.Prelude.{◌≡◌, ℕ, ◌<◌, ◌≤◌, length, take, Decides};
+ghost use Rattle.std.specs.Prelude.{◌≡◌, ◌≤◌, length, Decides};
 ghost use Rattle.table.specs.Table.{table_of};
-ghost use Rattle.table.specs.Sound.{Sound};
 ghost use Rattle.replay.specs.Replays.{Tracks, Attached, Agrees, RoomFor, lag_by};
 
 use crate::lag::same_lag;
 use crate::written::{output, whole};
 use alphabet::Alphabet;
 use steps::{Hand, Step};
-use table::Draft;
-
-// Whether the first n symbols of x are the first k of y.
-fn same_front(x: &[u32], n: usize, y: &[u32], k: usize) -> bool
-    requires left { n ≤ length x.now }
-    requires right { k ≤ length y.now }
-    ensures { Decides result (take n x.now ≡ take k y.now) }
-{
-    &x[0..n] == &y[0..k]
-}
+use table::{Draft, Filter};
 
 // Whether the two filters write the same for the text of a step, final outputs included, or both reject it.
 pub fn agree<A: Alphabet>(
-    left: &Draft<'_, A>,
-    right: &Draft<'_, A>,
+    left: &Filter<'_, A>,
+    right: &Filter<'_, A>,
     steps: &[Step],
     step: Step,
     x: &mut [u32],
     y: &mut [u32],
 ) -> bool
-    requires left { Sound A.model (table_of left.now) }
-    requires right { Sound A.model (table_of right.now) }
-    requires tracks { Tracks A.model (table_of left.now) (table_of right.now) steps.now }
-    requires attached { Attached A.model (table_of left.now) (table_of right.now) steps.now step }
-    requires rooml { RoomFor A.model (table_of left.now) step.left (length x.old) }
-    requires roomr { RoomFor A.model (table_of right.now) step.right (length y.old) }
-    ensures { Decides result (Agrees A.model (table_of left.now) (table_of right.now) steps.now step) }
+    requires tracks { Tracks A.model (table_of left.now.draft) (table_of right.now.draft) steps.now }
+    requires attached { Attached A.model (table_of left.now.draft) (table_of right.now.draft) steps.now step }
+    requires rooml { RoomFor A.model (table_of left.now.draft) step.left (length x.old) }
+    requires roomr { RoomFor A.model (table_of right.now.draft) step.right (length y.old) }
+    ensures { Decides result (Agrees A.model (table_of left.now.draft) (table_of right.now.draft) steps.now step) }
 {
     let first = whole(left, Hand::Left, steps, step, x);
     let second = whole(right, Hand::Right, steps, step, y);
     match (first, second) {
-        (Some(n), Some(k)) => same_front(x, n, y, k),
+        (Some(n), Some(k)) => x[..n] == y[..k],
         (None, None) => true,
         _ => false,
     }
@@ -70,5 +58,5 @@ pub fn same_lags<A: Alphabet>(
     let j = output(right, Hand::Right, steps, first, y);
     let k = output(left, Hand::Left, steps, second, z);
     let l = output(right, Hand::Right, steps, second, w);
-    same_lag(&x[0..i], &y[0..j], &z[0..k], &w[0..l])
+    same_lag(&x[..i], &y[..j], &z[..k], &w[..l])
 }

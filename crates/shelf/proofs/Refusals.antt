@@ -3,7 +3,7 @@ use Rattle.std.proofs.Common.{◌≡◌, ℕ, ◌-◌, Bool, true, false, cond, 
 use Rattle.std.proofs.lemmas.Bool.Decides.{nat_tests}
 use Rattle.answers.specs.declared.fault.Fault.{Fault}
 use Rattle.answers.specs.declared.fault.Fault.TheVariants.{NoHolding}
-use Rattle.shelf_holdings.specs.Memory.{Memory, place_of}
+use Rattle.holdings.specs.Memory.{Memory, place_of}
 use Rattle.shelf_law.specs.Holdings.{Has}
 
 module _ {G T : Type 0} (M : Memory G T) (n : ℕ) where

@@ -1,5 +1,5 @@
 // Joining two holdings.
-ghost use Rattle.shelf_holdings.specs.Memory.{memory_of};
+ghost use Rattle.holdings.specs.Memory.{memory_of};
 ghost use Rattle.shelf_law.specs.Calls.{Joining, Does};
 ghost use Rattle.shelf_law.specs.Composition.{JoinedUnder};
 ghost use Rattle.shelf_law.specs.History.{call_of};
@@ -9,8 +9,8 @@ ghost use Rattle.shelf.specs.Lent.{lent, lent_lists};
 use crate::lent::{JoinLists, Scratch};
 use alphabet::Alphabet;
 use answers::Fault;
+use holdings::Shelf;
 use joining::place_joined;
-use shelf_holdings::Shelf;
 
 // Puts the join of the holdings of two numbers behind the others, and answers its number: the filter that does what the
 // first does and then the second. Refused as filing is, and where there is no such holding, or the joined filter is over

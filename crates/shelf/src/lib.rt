@@ -13,5 +13,5 @@ pub mod open;
 pub mod transduce;
 
 pub use answers::{Comparison, Fault};
+pub use holdings::{Entry, Head, Shelf};
 pub use lent::{JoinLists, Scratch};
-pub use shelf_holdings::{Entry, Head, Shelf};

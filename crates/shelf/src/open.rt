@@ -1,11 +1,11 @@
 // Opening a shelf.
 ghost use Rattle.std.specs.Prelude.{◌≡◌, []};
-ghost use Rattle.shelf_holdings.specs.Memory.{memory_of, opened};
+ghost use Rattle.holdings.specs.Memory.{memory_of, opened};
 ghost use Rattle.shelf_law.specs.History.{Reached};
 ghost use Rattle.shelf_law.specs.Law.{Law};
 
 use alphabet::Alphabet;
-use shelf_holdings::{Entry, Shelf};
+use holdings::{Entry, Shelf};
 use table::{Rule, State};
 
 // A shelf without holdings: the beginning of every history. Ledger and lists may have any length and contents, and stay

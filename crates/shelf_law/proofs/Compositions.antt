@@ -10,17 +10,17 @@ use Rattle.answers.specs.declared.fault.Fault.{Fault}
 use Rattle.answers.specs.declared.fault.Fault.TheVariants.{Misfit, Unsound, Double}
 use Rattle.join_laws.specs.Theorems.{Limited}
 use Rattle.join_laws.proofs.Joining.{joins as joining-laws}
-use Rattle.shelf_holdings.specs.declared.memory.Entry.{Entry}
-use Rattle.shelf_holdings.specs.Memory.{Memory, in_use, fits, holding}
-use Rattle.shelf_holdings.specs.Check.{next, check_from, checked_shelf}
-use Rattle.shelf_holdings.specs.Append.{appended}
-use Rattle.shelf_holdings.proofs.Appends.{adds}
+use Rattle.holdings.specs.declared.memory.Entry.{Entry}
+use Rattle.holdings.specs.Memory.{Memory, in_use, fits, holding}
+use Rattle.holdings.specs.Check.{next, check_from, checked_shelf}
+use Rattle.holdings.specs.Append.{appended}
+use Rattle.holdings.proofs.Appends.{adds}
 use Rattle.shelf_law.specs.Holdings.{Has, numbered}
 use Rattle.shelf_law.specs.Scratch.{Scratch, Lists}
 use Rattle.shelf_law.specs.Placing.{Placing, short_scratch, double, full, held}
 use Rattle.shelf_law.specs.Calls.{Request, Joining, Readable, joined_at, Does, unreadable, unsound, no_first, no_second, too_large, files, joins}
 use Rattle.shelf_law.specs.Composition.{Composition, JoinedUnder}
-use Rattle.shelf_law.proofs.Readable.{readable_fits, readable_sound}
+use Rattle.holdings.proofs.ReadThrough.{readable_fits, readable_sound}
 
 module _ {G T : Type 0} (m : Model G T) (M : Memory G T) where
   -- the check of a shelf finds no doubles

@@ -14,10 +14,10 @@ use Rattle.answers.specs.declared.fault.Fault.TheVariants.{Double}
 use Rattle.equivalence.specs.Answers.{steps_for}
 use Rattle.join_laws.specs.Theorems.{Limited}
 use Rattle.join_laws.proofs.Joining.{joins as joining-laws}
-use Rattle.shelf_holdings.specs.Memory.{Memory, holding, opened}
-use Rattle.shelf_holdings.specs.Check.{checked_shelf}
-use Rattle.shelf_holdings.specs.Append.{room_for, appended, Adds}
-use Rattle.shelf_holdings.proofs.Appends.{adds}
+use Rattle.holdings.specs.Memory.{Memory, holding, opened}
+use Rattle.holdings.specs.Check.{checked_shelf}
+use Rattle.holdings.specs.Append.{room_for, appended, Adds}
+use Rattle.holdings.proofs.Appends.{adds}
 use Rattle.shelf_law.specs.Holdings.{Has, numbered, EveryHolding, NoHolding, Lowest}
 use Rattle.shelf_law.specs.Scratch.{Scratch, HeldBy, Enough}
 use Rattle.shelf_law.specs.Placing.{Placing, short_scratch, double, full, held}
@@ -26,8 +26,8 @@ use Rattle.shelf_law.specs.Comparing as comparing
 use Rattle.shelf_law.specs.Comparing.{Compared, Compares, Told, ToldApart}
 use Rattle.shelf_law.specs.History.{Call, call_of, Reached, opening, calling}
 use Rattle.shelf_law.specs.Law.{FilterOf, ScratchFor, Right, Represented, Kept, Law, KeepsLaw}
-use Rattle.shelf_law.proofs.Equivalences.{equivalent_refl, equivalent_sym, equivalent_trans}
-use Rattle.shelf_law.proofs.Readable.{readable_fits, readable_sound, opened_readable, appended_readable}
+use Rattle.holdings.proofs.Equivalences.{equivalent_refl, equivalent_sym, equivalent_trans}
+use Rattle.holdings.proofs.ReadThrough.{readable_fits, readable_sound, opened_readable, appended_readable}
 use Rattle.shelf_law.proofs.Placings.{enough_long}
 use Rattle.shelf_law.proofs.Limits.{sound_limited}
 

@@ -1,5 +1,3 @@
-pub mod Equivalences
-pub mod Readable
 pub mod Placings
 pub mod Limits
 pub mod Laws

@@ -5,7 +5,7 @@ use Rattle.table.specs.Table.{Table}
 use Rattle.filter.specs.Meaning.{Equivalent}
 use Rattle.answers.specs.declared.fault.Fault.{Fault}
 use Rattle.answers.specs.declared.fault.Fault.TheVariants.{ShortScratch, Double}
-use Rattle.shelf_holdings.specs.Memory.{Memory}
+use Rattle.holdings.specs.Memory.{Memory}
 use Rattle.shelf_law.specs.Holdings.{EveryHolding, NoHolding, Lowest}
 use Rattle.shelf_law.specs.Scratch.{Scratch, Enough, Short}
 use Rattle.shelf_law.specs.Placing.{Placing, short_scratch, double, full, held}

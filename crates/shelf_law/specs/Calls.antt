@@ -8,8 +8,8 @@ use Rattle.answers.specs.declared.fault.Fault.{Fault}
 use Rattle.answers.specs.declared.fault.Fault.TheVariants.{Draft, TooLarge, NoHolding as NoneNumbered}
 use Rattle.join_laws.specs.Joined.{joined}
 use Rattle.join_laws.specs.Theorems.{Limited}
-use Rattle.shelf_holdings.specs.Memory.{Memory}
-use Rattle.shelf_holdings.specs.Check.{checked_shelf}
+use Rattle.holdings.specs.Memory.{Memory}
+use Rattle.holdings.specs.Check.{checked_shelf}
 use Rattle.shelf_law.specs.Holdings.{Has, numbered}
 use Rattle.shelf_law.specs.Scratch.{Scratch, Lists, HeldBy}
 use Rattle.shelf_law.specs.Placing.{Placing}

@@ -9,8 +9,8 @@ use Rattle.answers.specs.declared.comparison.Comparison.TheVariants.{Equivalent 
 use Rattle.answers.specs.declared.fault.Fault.{Fault}
 use Rattle.answers.specs.declared.fault.Fault.TheVariants.{ShortScratch, TooShort, NoHolding as NoneNumbered}
 use Rattle.equivalence.specs.Answers.{steps_for}
-use Rattle.shelf_holdings.specs.Memory.{Memory}
-use Rattle.shelf_holdings.specs.Check.{checked_shelf}
+use Rattle.holdings.specs.Memory.{Memory}
+use Rattle.holdings.specs.Check.{checked_shelf}
 use Rattle.shelf_law.specs.Holdings.{Has, numbered}
 use Rattle.shelf_law.specs.Scratch.{Scratch, Enough, Short}
 use Rattle.shelf_law.specs.Calls.{Readable}

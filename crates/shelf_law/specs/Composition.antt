@@ -5,7 +5,7 @@ use Rattle.table.specs.Table.{Table}
 use Rattle.filter.specs.Meaning.{Writes}
 use Rattle.answers.specs.declared.fault.Fault.{Fault}
 use Rattle.answers.specs.declared.fault.Fault.TheVariants.{Double}
-use Rattle.shelf_holdings.specs.Memory.{Memory}
+use Rattle.holdings.specs.Memory.{Memory}
 use Rattle.shelf_law.specs.Holdings.{numbered}
 
 -- J writes v for u exactly where F writes some t for u and H writes v for t; so it rejects what either rejects

@@ -4,8 +4,8 @@ use Rattle.alphabet.specs.Model.{Model}
 use Rattle.table.specs.declared.entries.State.{State}
 use Rattle.table.specs.declared.entries.Rule.{Rule}
 use Rattle.answers.specs.declared.fault.Fault.{Fault}
-use Rattle.shelf_holdings.specs.declared.memory.Entry.{Entry}
-use Rattle.shelf_holdings.specs.Memory.{Memory, opened}
+use Rattle.holdings.specs.declared.memory.Entry.{Entry}
+use Rattle.holdings.specs.Memory.{Memory, opened}
 use Rattle.shelf_law.specs.Scratch.{Scratch}
 use Rattle.shelf_law.specs.Calls.{Request, Does}
 

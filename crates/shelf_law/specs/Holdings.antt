@@ -1,7 +1,7 @@
 -- The holdings of a shelf by number, and what is said of all, of none or of the lowest of them.
 use Rattle.std.specs.Prelude.{◌≡◌, ℕ, ◌+◌, ◌-◌, ◌<◌, ◌≤◌, Some, None, Option}
 use Rattle.table.specs.Table.{Table}
-use Rattle.shelf_holdings.specs.Memory.{Memory, holding}
+use Rattle.holdings.specs.Memory.{Memory, holding}
 
 module _ {G T : Type 0} (M : Memory G T) where
   -- a holding has this number; they are numbered from 1

@@ -7,8 +7,8 @@ use Rattle.table.specs.Sound.{Sound}
 use Rattle.filter.specs.Meaning.{Equivalent}
 use Rattle.answers.specs.declared.fault.Fault.{Fault}
 use Rattle.answers.specs.declared.fault.Fault.TheVariants.{Double, Full}
-use Rattle.shelf_holdings.specs.Memory.{Memory, holding}
-use Rattle.shelf_holdings.specs.Append.{room_for}
+use Rattle.holdings.specs.Memory.{Memory, holding}
+use Rattle.holdings.specs.Append.{room_for}
 use Rattle.shelf_law.specs.Holdings.{Has, numbered, EveryHolding, NoHolding, Lowest}
 use Rattle.shelf_law.specs.Scratch.{Scratch, Enough, HeldBy}
 use Rattle.shelf_law.specs.Calls.{Request, Filing, Joining, Readable, joined_at}

@@ -8,8 +8,8 @@ use Rattle.filter.specs.Promises.{Transduces}
 use Rattle.answers.specs.declared.fault.Fault.{Fault}
 use Rattle.answers.specs.declared.fault.Fault.TheVariants.{NoHolding as NoneNumbered}
 use Rattle.answers.specs.Reports.{transducing_fault}
-use Rattle.shelf_holdings.specs.Memory.{Memory}
-use Rattle.shelf_holdings.specs.Check.{checked_shelf}
+use Rattle.holdings.specs.Memory.{Memory}
+use Rattle.holdings.specs.Check.{checked_shelf}
 use Rattle.shelf_law.specs.Holdings.{Has, numbered}
 use Rattle.shelf_law.specs.Calls.{Readable}
 

@@ -10,11 +10,11 @@ use shelf::file::file;
 use shelf::join_holdings::join;
 use shelf::lent::{JoinLists, Scratch};
 use shelf::transduce::transduce;
-use shelf_holdings::{Head, Shelf};
+use holdings::{Head, Shelf};
 use std::alloc::{AllocError, Global};
 use std::process::Abort;
 use std::test::Fail;
-use steps::{Side, Step};
+use steps::{Side, Step, Visit};
 use table::{Draft, Rule, State};
 
 // How long the scratch is that a call is lent.
@@ -60,7 +60,7 @@ const BLANK: Step = Step {
     symbol: 11,
     left: SIDE,
     right: SIDE,
-    again: true,
+    visit: Visit::Second,
 };
 
 // A shelf over the memory; its head is handed back by `head_of`.

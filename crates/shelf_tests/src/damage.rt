@@ -7,7 +7,7 @@ use alphabet::Cause;
 use answers::{Fault, Report};
 use builtin::bytes::{escape, lower};
 use ranges::RangeTerm;
-use shelf_holdings::Head;
+use holdings::Head;
 use std::alloc::Global;
 use std::process::Abort;
 use std::test::Fail;

@@ -7,7 +7,7 @@ use crate::samples::{ByteMemory, COPY};
 use answers::Fault;
 use builtin::bytes::{escape, lower};
 use ranges::Bytes;
-use shelf_holdings::{Entry, Head};
+use holdings::{Entry, Head};
 use std::alloc::Global;
 use std::process::Abort;
 use std::test::Fail;

@@ -10,9 +10,9 @@ use shelf::file::file;
 use shelf::join_holdings::join;
 use shelf::lent::{JoinLists, Scratch};
 use shelf::transduce::transduce;
-use shelf_holdings::Shelf;
+use holdings::Shelf;
 use std::alloc::{AllocError, Global};
-use steps::{Side, Step};
+use steps::Step;
 use table::{Rule, State};
 
 // One item some times.
@@ -23,21 +23,6 @@ pub fn filled<T: Copy>(heap: Global, item: T, count: usize) -> Result<Vec<T>, Al
     }
     Ok(list)
 }
-
-const SIDE: Side = Side {
-    state: None,
-    from: 0,
-    to: 0,
-    total: 0,
-};
-
-const BLANK: Step = Step {
-    parent: 0,
-    symbol: 0,
-    left: SIDE,
-    right: SIDE,
-    again: false,
-};
 
 // Scratch, and the lists for a joined filter, in memory of their own.
 #[derive(Drop)]
@@ -56,7 +41,7 @@ struct OwnLists<G: Copy, T: Copy> {
 
 fn desk_of(heap: Global, lent: Lent) -> Result<Desk, AllocError> {
     Ok(Desk {
-        steps: filled(heap, BLANK, lent.steps)?,
+        steps: filled(heap, Step::default(), lent.steps)?,
         symbols: filled(heap, 0, lent.symbols)?,
     })
 }

@@ -15,7 +15,7 @@ use lines::asked;
 use marks::Marks;
 use ranges::{Bytes, CodePoints};
 use shelf::open::open;
-use shelf_holdings::{Entry, Shelf};
+use holdings::{Entry, Shelf};
 use subject::{ByteSubject, CodePointSubject, MarkSubject, Output, Subject};
 use table::{Rule, State};
 use tour::{Call, PLENTY, TOUR};

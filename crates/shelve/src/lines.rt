@@ -1,5 +1,4 @@
 // The lines that are printed: one for each body, then one for each pair of holdings.
-use anyhow::anyhow;
 use codec::{GuardRecord, Record, Stored};
 use marks::{MarkSet, MarkTerm, Marks, letter};
 use ranges::{Bytes, CodePoints, Range, RangeTerm};
@@ -75,7 +74,10 @@ fn print_verdict(rt: &HostRuntime, body: usize, verdict: Verdict) -> anyhow::Res
     match verdict {
         Verdict::Filed(number) => println!(rt; "{body} filed {number}")?,
         Verdict::Twin(number) => println!(rt; "{body} twin {number}")?,
-        Verdict::Refused(fault) => println!(rt; "{body} refused {fault}")?,
+        Verdict::Refused(fault) => {
+            let number = fault.report().number;
+            println!(rt; "{body} refused {number}")?
+        }
     }
     Ok(())
 }
@@ -89,18 +91,11 @@ where
     for (i, verdict) in shelved.verdicts.as_slice().iter().enumerate() {
         print_verdict(rt, i + 1, *verdict)?;
     }
-    let mut texts = shelved.pairs.texts.as_slice();
-    for pair in shelved.pairs.lines.as_slice() {
-        let length = pair.length;
-        if length > texts.len() {
-            return Err(anyhow!("a text is missing"));
-        }
-        let (text, rest) = texts.split_at(length);
-        let text = shown::<A>(rt.alloc(), text)?;
+    for pair in shelved.pairs.as_slice() {
         let first = pair.first;
         let second = pair.second;
+        let text = shown::<A>(rt.alloc(), pair.text.as_slice())?;
         println!(rt; "{first} {second} {text}")?;
-        texts = rest;
     }
     Ok(())
 }

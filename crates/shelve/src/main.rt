@@ -7,11 +7,11 @@ mod lines;
 
 use anyhow::anyhow;
 use codec::{GuardRecord, Record};
+use holdings::{Entry, Shelf};
 use lines::{Printed, print_all};
 use marks::Marks;
 use ranges::{Bytes, CodePoints};
 use shelf::open::open;
-use shelf_holdings::{Entry, Shelf};
 use shelve_input::{Kind, kind_of};
 use shelving::ShelveFault;
 use shelving::shelve::shelve;

@@ -2,7 +2,7 @@
 use alphabet::Alphabet;
 use anyhow::anyhow;
 use codec::{GuardRecord, Record, Stored};
-use shelf_holdings::{Entry, Head, Shelf};
+use holdings::{Entry, Head, Shelf};
 use std::alloc::Global;
 use stored::{decode, encode};
 use table::{Draft, Rule, State};

@@ -3,7 +3,7 @@ use Rattle.std.proofs.Common.{◌≡◌, ℕ, ◌+◌, List, [], ◌∷◌, ◌+
 use Rattle.alphabet.specs.Model.{Model}
 use Rattle.table.specs.Table.{Table}
 use Rattle.answers.specs.declared.fault.Fault.{Fault}
-use Rattle.shelf_holdings.specs.Memory.{Memory, holding}
+use Rattle.holdings.specs.Memory.{Memory, holding}
 use Rattle.shelf_law.specs.Scratch.{Scratch}
 use Rattle.shelf_law.specs.Calls.{Filing, Does}
 use Rattle.shelving.specs.declared.report.Verdict.{Verdict}

@@ -1,18 +1,18 @@
 -- Two holdings told apart, and one pair more.
-use Rattle.std.proofs.Common.{◌≡◌, ℕ, ◌+◌, ◌-◌, ◌<◌, ◌≤◌, List, [], ◌∷◌, ◌++◌, length, take, drop, Ok, Result, sym, ap, ◌∙◌, subst, arith}
-use Rattle.std.proofs.lemmas.List.{take_at, length-append, length-take-le}
+use Rattle.std.proofs.Common.{vec_items, ◌≡◌, ℕ, ◌+◌, ◌-◌, ◌<◌, ◌≤◌, List, [], ◌∷◌, ◌++◌, length, take, drop, Ok, Result, sym, ap, ◌∙◌, subst, arith}
+use Rattle.std.proofs.lemmas.List.{take_at, length-append}
 use Rattle.alphabet.specs.Model.{Model}
 use Rattle.answers.specs.declared.comparison.Comparison.{Comparison}
 use Rattle.answers.specs.declared.comparison.Comparison.TheVariants.{Distinguished}
 use Rattle.answers.specs.declared.fault.Fault.{Fault}
-use Rattle.shelf_holdings.specs.Memory.{Memory}
+use Rattle.holdings.specs.Memory.{Memory}
 use Rattle.equivalence.specs.Answers.{steps_for}
 use Rattle.shelf_law.specs.Holdings.{numbered}
 use Rattle.shelf_law.specs.Scratch.{Scratch, scratch_of, Enough}
 use Rattle.shelf_law.specs.Comparing as comparing
 use Rattle.shelf_law.specs.Comparing.{Compares, Earliest}
 use Rattle.shelving.specs.declared.report.Pair.{Pair}
-use Rattle.shelving.specs.Runs.{pair_of, Told, none, row, pair}
+use Rattle.shelving.specs.Runs.{Told, none, row, pair}
 use Rattle.shelving.specs.Separable.{Separable}
 
 module _ {G T : Type 0} (m : Model G T) (S : Scratch) (n : ℕ) (M : Memory G T) (ok : Separable m S n M) where
@@ -35,20 +35,22 @@ module _ {G T : Type 0} {m : Model G T} {M : Memory G T} {i j : ℕ} {w : List �
 
 module _ {G T : Type 0} (m : Model G T) (M : Memory G T) where
   -- one pair more
-  pub told_more : (i j : ℕ) (ls : List Pair) (ts w : List ℕ) (n : ℕ) → Told m M i j ls ts → j ≤ M.head.holdings → n ≤ length w → Earliest m (numbered M i) (numbered M j) (take n w)
-      → (ls' : List Pair) → ls' ≡ ls ++ pair_of i j n ∷ [] → (ts' : List ℕ) → ts' ≡ ts ++ take n w → Told m M i (j + 1) ls' ts'
-  told_more i j ls ts w n T high room e ls' lines ts' texts =
-      let size : length (take n w) ≡ n = length-take-le n w room in
-      let T₁ = pair i j ls ts (take n w) high e T in
-      subst (λ x. Told m M i (j + 1) x ts') (sym (lines ∙ ap (λ k. ls ++ pair_of i j k ∷ []) (sym size)))
-      (subst (Told m M i (j + 1) (ls ++ pair_of i j (length (take n w)) ∷ [])) (sym texts) T₁)
+  pub told_more : (p : Pair) (ps : List Pair) → Told m M p.first p.second ps → p.second ≤ M.head.holdings → Earliest m (numbered M p.first) (numbered M p.second) (vec_items p.text)
+      → (qs : List Pair) → qs ≡ ps ++ p ∷ [] → Told m M p.first (p.second + 1) qs
+  told_more p ps T high e qs more = subst (Told m M p.first (p.second + 1)) (sym more) (pair p ps high e T)
 
   -- no pair yet, and the next first number
-  pub told_none : (ls : List Pair) → ls ≡ [] → (ts : List ℕ) → ts ≡ [] → Told m M 1 2 ls ts
-  told_none ls lines ts texts = subst (λ x. Told m M 1 2 x ts) (sym lines) (subst (Told m M 1 2 []) (sym texts) none)
+  pub told_none : (ps : List Pair) → ps ≡ [] → Told m M 1 2 ps
+  told_none ps empty = subst (Told m M 1 2) (sym empty) none
 
-  pub told_row : (i : ℕ) (ls : List Pair) (ts : List ℕ) → Told m M i (M.head.holdings + 1) ls ts → Told m M (i + 1) (i + 1 + 1) ls ts
-  told_row i ls ts T = let next : i + 2 ≡ i + 1 + 1 = omega arith in subst (λ j. Told m M (i + 1) j ls ts) next (row i (M.head.holdings + 1) ls ts (omega arith) T)
+  pub told_row : (i : ℕ) (ps : List Pair) → Told m M i (M.head.holdings + 1) ps → Told m M (i + 1) (i + 1 + 1) ps
+  told_row i ps T = let next : i + 2 ≡ i + 1 + 1 = omega arith in subst (λ j. Told m M (i + 1) j ps) next (row i (M.head.holdings + 1) ps (omega arith) T)
+
+  -- and where the first number is behind the last holding, all pairs were told apart
+  pub told_at : (i : ℕ) (ps : List Pair) → i ≡ M.head.holdings + 1 → Told m M i (i + 1) ps → Told m M (M.head.holdings + 1) (M.head.holdings + 2) ps
+  told_at i ps all T =
+      let next : i + 1 ≡ M.head.holdings + 2 = omega (arith, all) in
+      subst (λ j. Told m M (M.head.holdings + 1) j ps) next (subst (λ k. Told m M k (i + 1) ps) all T)
 
   -- the same scratch and witness by other lengths
   pub separable_at : {n k l : ℕ} (n' k' l' : ℕ) → n ≡ n' → k ≡ k' → l ≡ l' → Separable m (scratch_of n k) l M → Separable m (scratch_of n' k') l' M

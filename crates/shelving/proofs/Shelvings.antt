@@ -8,15 +8,15 @@ use Rattle.answers.specs.declared.fault.Fault.{Fault}
 use Rattle.replay.specs.Sizes.{longest_of}
 use Rattle.judging.specs.Frames.{width_of, room_of}
 use Rattle.equivalence.specs.Answers.{steps_for}
-use Rattle.shelf_holdings.specs.Memory.{Memory, holding}
-use Rattle.shelf_holdings.specs.Append.{appended, room_for, Adds}
-use Rattle.shelf_holdings.proofs.Appends.{adds}
+use Rattle.holdings.specs.Memory.{Memory, holding}
+use Rattle.holdings.specs.Append.{appended, room_for, Adds}
+use Rattle.holdings.proofs.Appends.{adds}
 use Rattle.shelf_law.specs.Holdings.{EveryHolding}
 use Rattle.shelf_law.specs.Scratch.{Scratch, Enough}
 use Rattle.shelf_law.specs.Placing.{Placing, short_scratch, double, full, held}
 use Rattle.shelf_law.specs.Calls.{Request, Filing, Readable, Does, unreadable, unsound, no_first, no_second, too_large, files, joins}
 use Rattle.shelf_law.specs.History.{Call, call_of, Reached, calling}
-use Rattle.shelf_law.proofs.Readable.{readable_fits}
+use Rattle.holdings.proofs.ReadThrough.{readable_fits}
 use Rattle.shelf_law.proofs.Laws.{law_holds_lem}
 use Rattle.shelving.specs.declared.report.Verdict.{Verdict}
 use Rattle.shelving.specs.Runs.{Run, begun, filed}

@@ -1,7 +1,7 @@
 -- Collections whose holdings can all be told apart.
 use Rattle.std.specs.Prelude.{ℕ, ◌<◌, ◌≤◌}
 use Rattle.alphabet.specs.Model.{Model}
-use Rattle.shelf_holdings.specs.Memory.{Memory, holding}
+use Rattle.holdings.specs.Memory.{Memory, holding}
 use Rattle.shelf_law.specs.Scratch.{Scratch, Enough}
 use Rattle.shelf_law.specs.Comparing.{ToldApart}
 

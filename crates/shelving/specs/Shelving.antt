@@ -1,7 +1,7 @@
 -- What shelving bodies answers: they were filed in order on a fresh shelf, and its holdings were told apart.
 use Rattle.std.specs.Prelude.{◌≡◌, ℕ, ◌+◌, false, List, Ok, Err, vec_items, Result}
 use Rattle.alphabet.specs.Model.{Model}
-use Rattle.shelf_holdings.specs.Memory.{Memory, fits, opened}
+use Rattle.holdings.specs.Memory.{Memory, fits, opened}
 use Rattle.shelf_law.specs.Scratch.{Scratch, scratch_of}
 use Rattle.shelf_law.specs.History.{Call, Reached}
 use Rattle.shelf_law.specs.Law.{Law}
@@ -25,7 +25,7 @@ pub record Shelving {G T : Type 0} (m : Model G T) (S : Scratch) (B M : Memory G
   pub reached : Reached m history collection
   pub law : Law m history collection
   -- every two holdings were told apart, in order
-  pub told : Told m collection (collection.head.holdings + 1) (collection.head.holdings + 2) (vec_items s.pairs.lines) (vec_items s.pairs.texts)
+  pub told : Told m collection (collection.head.holdings + 1) (collection.head.holdings + 2) (vec_items s.pairs)
 
 -- with so many slots for steps and so many scratch symbols
 abbrev pub Shelves : {G T : Type 0} → Model G T → ℕ → ℕ → Memory G T → Result Shelved ShelveFault → Type 0

@@ -1,14 +1,14 @@
 // Filing bodies one after another.
 ghost use Rattle.std.specs.Prelude.{◌≡◌, true, length, IfOk};
-ghost use Rattle.shelf_holdings.specs.Memory.{memory_of, fits as fitting};
+ghost use Rattle.holdings.specs.Memory.{memory_of, fits as fitting};
 ghost use Rattle.shelf_law.specs.Scratch.{scratch_of};
 ghost use Rattle.shelving.specs.Runs.{Run};
 
 use crate::report::{Verdict, verdict_of};
 use alphabet::Alphabet;
+use holdings::Shelf;
 use shelf::Scratch;
 use shelf::file::file;
-use shelf_holdings::Shelf;
 use std::alloc::{AllocError, Global};
 use steps::Step;
 

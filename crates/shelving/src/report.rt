@@ -11,23 +11,16 @@ pub enum Verdict {
     Filed(usize),
     // It is a double of this holding.
     Twin(usize),
-    // It was refused with a fault of this number.
-    Refused(u8),
+    // It was refused with this fault.
+    Refused(Fault),
 }
 
-// Two holdings, and the length of the earliest text that distinguishes them.
-#[derive(Clone, Copy)]
+// Two holdings, and the earliest text that distinguishes them.
+#[derive(Drop)]
 pub struct Pair {
     pub first: usize,
     pub second: usize,
-    pub length: usize,
-}
-
-// Pairs of holdings, and their texts one behind another.
-#[derive(Drop)]
-pub struct Pairs {
-    pub lines: Vec<Pair>,
-    pub texts: Vec<u32>,
+    pub text: Vec<u32>,
 }
 
 // The verdict that an answer of filing is.
@@ -37,6 +30,6 @@ pub fn verdict_of(answer: Result<usize, Fault>) -> Verdict
     match answer {
         Ok(number) => Verdict::Filed(number),
         Err(Fault::Double(number)) => Verdict::Twin(number),
-        Err(fault) => Verdict::Refused(fault.report().number),
+        Err(fault) => Verdict::Refused(fault),
     }
 }

@@ -1,6 +1,6 @@
 // Filing the bodies of a stored shelf on a fresh one, and telling the holdings apart, in memory of its own.
 ghost use Rattle.std.specs.Prelude.{◌≡◌, ◌≤◌, true, [], length, IfOk};
-ghost use Rattle.shelf_holdings.specs.Memory.{memory_of, fits as fitting};
+ghost use Rattle.holdings.specs.Memory.{memory_of, fits as fitting};
 ghost use Rattle.shelf_law.specs.Scratch.{scratch_of};
 ghost use Rattle.shelf_law.specs.History.{Reached};
 ghost use Rattle.shelving.specs.declared.shelve.ShelveFault.TheVariants.{NoMemory};
@@ -8,11 +8,10 @@ ghost use Rattle.shelving.specs.Shelving.{Shelving, Shelves};
 
 use crate::filing::file_bodies;
 use crate::pair_texts::tell_pairs;
-use crate::report::{Pairs, Verdict};
+use crate::report::{Pair, Verdict};
 use alphabet::Alphabet;
-use comparing::BLANK;
+use holdings::Shelf;
 use shelf::open::open;
-use shelf_holdings::Shelf;
 use std::alloc::{AllocError, Global};
 use steps::Step;
 
@@ -20,7 +19,7 @@ use steps::Step;
 #[derive(Drop)]
 pub struct Shelved {
     pub verdicts: Vec<Verdict>,
-    pub pairs: Pairs,
+    pub pairs: Vec<Pair>,
 }
 
 // Why nothing was filed.
@@ -77,7 +76,7 @@ pub fn shelve<A: Alphabet>(
     let mut states = Vec::from_slice(heap, &*bodies.states)?;
     let mut rules = Vec::from_slice(heap, &*bodies.rules)?;
     let mut outputs = Vec::from_slice(heap, &*bodies.outputs)?;
-    let mut slots = vec![in heap; BLANK; steps]?;
+    let mut slots = vec![in heap; Step::default(); steps]?;
     let mut scratch = vec![in heap; 0u32; symbols]?;
     let mut witness = vec![in heap; 0u32; steps]?;
     let mut shelf = open(

@@ -1,8 +1,9 @@
 -- The steps of a comparison as lists: where a filter stands after a step, and the text of a step.
-use Rattle.std.specs.Prelude.{◌≡◌, ℕ, ◌<◌, false, cond, List, ◌++◌, map, length, drop, Some, None, Option, nat_le, nat_lt, slice_index_or}
+use Rattle.std.specs.Prelude.{◌≡◌, ℕ, ◌<◌, cond, List, ◌++◌, map, length, drop, Some, None, Option, nat_le, nat_lt, slice_index_or}
 use Rattle.machine.specs.Texts.{text_at}
 use Rattle.steps.specs.declared.step.Side.{Side}
 use Rattle.steps.specs.declared.step.Step.{Step}
+use Rattle.steps.specs.declared.step.Visit.TheVariants.{First}
 use Rattle.steps.specs.declared.step.Hand.{Hand}
 use Rattle.steps.specs.declared.step.Hand.TheVariants.{Left, Right}
 
@@ -18,7 +19,7 @@ blank = record {
   symbol = 0;
   left = record { state = None; from = 0; to = 0; total = 0 };
   right = record { state = None; from = 0; to = 0; total = 0 };
-  again = false;
+  visit = First;
 }
 
 -- the step of a number

@@ -6,5 +6,5 @@ pub mod step;
 pub mod text;
 
 pub use places::{find, place_of, steps_needed};
-pub use step::{Hand, Side, Step, side_of};
+pub use step::{Hand, Side, Step, Visit, side_of};
 pub use text::write_text;

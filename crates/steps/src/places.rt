@@ -2,7 +2,7 @@
 ghost use Rattle.std.specs.Prelude.{◌≡◌, ℕ, ◌+◌, ◌*◌, ◌<◌, ◌≤◌, length};
 ghost use Rattle.steps.specs.Places.{steps_needed_lem, number_of, place_of, Proper, Placed, Found};
 
-use crate::step::Step;
+use crate::step::{Step, Visit};
 
 // How many steps a comparison of filters with so many states makes at most.
 pub fn steps_needed(left: usize, right: usize) -> usize
@@ -17,24 +17,20 @@ pub fn steps_needed(left: usize, right: usize) -> usize
 fn number(count: usize, state: Option<u16>) -> usize
     ensures { result ≡ number_of count state }
 {
-    match state {
-        Some(state) => state as usize,
-        None => count,
-    }
+    state.map_or(count, usize::from)
 }
 
 // The place of a pair of states, of filters with p and q states, at the first or the second visit.
-pub fn place_of(p: usize, q: usize, left: Option<u16>, right: Option<u16>, again: bool) -> usize
+pub fn place_of(p: usize, q: usize, left: Option<u16>, right: Option<u16>, visit: Visit) -> usize
     requires left { p ≤ 64 }
     requires right { q ≤ 64 }
-    ensures { result ≡ place_of p q left right again }
+    ensures { result ≡ place_of p q left right visit }
 {
     let row = number(p, left);
     let column = number(q, right);
-    if again {
-        p * q + p + q + (row * q + column)
-    } else {
-        row * (q + 1) + column
+    match visit {
+        Visit::First => row * (q + 1) + column,
+        Visit::Second => p * q + p + q + (row * q + column),
     }
 }
 
@@ -47,23 +43,16 @@ pub fn find(
     q: usize,
     left: Option<u16>,
     right: Option<u16>,
-    again: bool,
+    visit: Visit,
 ) -> Option<usize>
     requires left { p ≤ 64 }
     requires right { q ≤ 64 }
     requires placed { Placed p q steps.now cells.now }
-    requires within { place_of p q left right again < length cells.now }
-    ensures { Found p q steps.now (place_of p q left right again) result }
+    requires within { place_of p q left right visit < length cells.now }
+    ensures { Found p q steps.now (place_of p q left right visit) result }
 {
-    let place = place_of(p, q, left, right, again);
+    let place = place_of(p, q, left, right, visit);
     let number = cells[place] as usize;
-    if number >= steps.len() {
-        return None;
-    }
-    let step = steps[number];
-    if place_of(p, q, step.left.state, step.right.state, step.again) == place {
-        Some(number)
-    } else {
-        None
-    }
+    let step = steps.get(number)?;
+    (place_of(p, q, step.left.state, step.right.state, step.visit) == place).then_some(number)
 }

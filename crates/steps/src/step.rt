@@ -4,7 +4,7 @@ ghost use Rattle.steps.specs.Steps.{side_of};
 
 // One filter after a text: its state, or none where it has no move; where the outputs of its last rule stand in its
 // output list; and how many symbols it has written in all.
-#[derive(Clone, Copy)]
+#[derive(Clone, Copy, Default)]
 pub struct Side {
     pub state: Option<u16>,
     pub from: u16,
@@ -12,14 +12,22 @@ pub struct Side {
     pub total: u32,
 }
 
-// The first step stands for the empty text. A pair of states is visited twice at most; `again` marks the second visit.
-#[derive(Clone, Copy)]
+// Which visit to a pair of states; there are two at most.
+#[derive(Clone, Copy, Default)]
+pub enum Visit {
+    #[default]
+    First,
+    Second,
+}
+
+// The first step stands for the empty text.
+#[derive(Clone, Copy, Default)]
 pub struct Step {
     pub parent: u16,
     pub symbol: u32,
     pub left: Side,
     pub right: Side,
-    pub again: bool,
+    pub visit: Visit,
 }
 
 // Which of the two filters.

@@ -19,6 +19,7 @@ fn text_length(steps: &[Step], step: usize) -> usize
     requires within { step < length steps.now }
     ensures { result ≡ length (text_of steps.now step) }
 {
+    // A `while`, since only the way up tells how many steps are on it.
     let mut count = 0;
     let mut at = step;
     while at > 0 {
@@ -35,10 +36,8 @@ fn fill_text(steps: &[Step], step: usize, count: usize, witness: &mut [u32])
     requires room { count ≤ length witness.old }
     ensures { witness.new ≡ text_of steps.now step ++ drop count witness.old }
 {
-    let mut left = count;
     let mut at = step;
-    while at > 0 {
-        left -= 1;
+    for left in (0..count).rev() {
         witness[left] = steps[at].symbol;
         at = step_above(steps, at);
     }

@@ -2,10 +2,10 @@
 use Rattle.std.proofs.Common.{◌≡◌, ℕ, ◌+◌, ◌<◌, ◌≤◌, true, List, length, get_or, take, Some, Ok, Err, Result, sym, refl, ap, ◌∙◌, arith}
 use Rattle.std.proofs.lemmas.List.{length-take-le}
 use Rattle.table.specs.Table.{Table}
-use Rattle.shelf_holdings.specs.declared.memory.Entry.{Entry}
-use Rattle.shelf_holdings.specs.declared.memory.Head.{Head}
-use Rattle.shelf_holdings.specs.Memory.{Memory, states_of_lem, rules_of, outputs_of_lem, fits}
-use Rattle.shelf_holdings.specs.Append.{appended}
+use Rattle.holdings.specs.declared.memory.Entry.{Entry}
+use Rattle.holdings.specs.declared.memory.Head.{Head}
+use Rattle.holdings.specs.Memory.{Memory, states_of_lem, rules_of, outputs_of_lem, fits}
+use Rattle.holdings.specs.Append.{appended}
 use Rattle.codec_laws.specs.Code.{Code, Exact, Free}
 use Rattle.codec_laws.specs.Numbers.{at}
 use Rattle.stored_laws.specs.declared.StoredFault.{StoredFault}

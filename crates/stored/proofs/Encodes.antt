@@ -7,13 +7,13 @@ use Rattle.std.proofs.lemmas.Bool.Decides.{nat_tests}
 use Rattle.alphabet.specs.Model.{Model}
 use Rattle.table.specs.Results.{map_err}
 use Rattle.table.specs.Table.{Table}
-use Rattle.shelf_holdings.specs.declared.memory.Entry.{Entry}
-use Rattle.shelf_holdings.specs.declared.memory.Head.{Head}
+use Rattle.holdings.specs.declared.memory.Entry.{Entry}
+use Rattle.holdings.specs.declared.memory.Head.{Head}
 use Rattle.answers.specs.declared.fault.Fault.{Fault}
-use Rattle.shelf_holdings.specs.Memory.{Memory, in_use, fits, holding}
-use Rattle.shelf_holdings.specs.Check.{checked_shelf}
-use Rattle.shelf_holdings.specs.Append.{over}
-use Rattle.shelf_holdings.proofs.Parts.{fitting}
+use Rattle.holdings.specs.Memory.{Memory, in_use, fits, holding}
+use Rattle.holdings.specs.Check.{checked_shelf}
+use Rattle.holdings.specs.Append.{over}
+use Rattle.holdings.proofs.Parts.{fitting}
 use Rattle.codec_laws.specs.Code.{Code, Exact, Free}
 use Rattle.codec_laws.specs.Entries.{entry_code, state_code, rule_code}
 use Rattle.codec_laws.specs.Lists.{image_all}

@@ -1,7 +1,7 @@
 -- What the bodies that a reader hands out say.
 use Rattle.std.proofs.Common.{◌≡◌, ℕ, zero, suc, ◌+◌, ◌*◌, true, List, ◌∷◌, length, take, drop, Some, sym, refl, ap, ◌∙◌, suc-mul, arith, length-drop}
 use Rattle.std.proofs.lemmas.List.{drop-take, length-take-le, take-take}
-use Rattle.shelf_holdings.specs.declared.memory.Entry.{Entry}
+use Rattle.holdings.specs.declared.memory.Entry.{Entry}
 use Rattle.reader.specs.declared.body.Body.{Body}
 use Rattle.reader.specs.Parts.{Parts, whole, counts_at_lem, body_at, parts_of}
 use Rattle.reader.proofs.Shown.{parts, both, there, counts_there}

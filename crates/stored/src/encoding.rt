@@ -1,8 +1,8 @@
 // Writing a shelf as bytes.
 ghost use Rattle.std.specs.Prelude.{◌≡◌, ℕ, ◌+◌, ◌*◌, ◌≤◌, true, List, ◌∷◌, length, take, is_ok, if◌then◌else◌, Ok, Err};
 ghost use Rattle.table.specs.Table.{table_of};
-ghost use Rattle.shelf_holdings.specs.Memory.{memory_of};
-ghost use Rattle.shelf_holdings.specs.Append.{over};
+ghost use Rattle.holdings.specs.Memory.{memory_of};
+ghost use Rattle.holdings.specs.Append.{over};
 ghost use Rattle.codec_laws.specs.Code.{Bytes};
 ghost use Rattle.codec_laws.specs.Entries.{entry_code};
 ghost use Rattle.codec_laws.specs.Lists.{image_all};
@@ -12,7 +12,7 @@ ghost use Rattle.stored_laws.specs.Shelved.{tables_of, shelf_bytes, encoded};
 
 use alphabet::Alphabet;
 use codec::{GuardRecord, Record, Stored, put};
-use shelf_holdings::{Entry, Head, Shelf};
+use holdings::{Entry, Head, Shelf};
 use stored_laws::StoredFault;
 use table::Draft;
 

@@ -9,10 +9,10 @@ use Rattle.alphabet.specs.Model.{Model, SoundGuard, SoundTerm}
 use Rattle.table.specs.declared.entries.State.{State}
 use Rattle.table.specs.declared.entries.Rule.{Rule}
 use Rattle.table.specs.Table.{Table, stretch}
-use Rattle.shelf_holdings.specs.declared.memory.Entry.{Entry}
-use Rattle.shelf_holdings.specs.Memory.{Memory, in_use, states_of_lem, rules_of, outputs_of_lem, fits, holding}
-use Rattle.shelf_holdings.specs.Check.{checked_shelf}
-use Rattle.shelf_holdings.proofs.Parts.{fitting}
+use Rattle.holdings.specs.declared.memory.Entry.{Entry}
+use Rattle.holdings.specs.Memory.{Memory, in_use, states_of_lem, rules_of, outputs_of_lem, fits, holding}
+use Rattle.holdings.specs.Check.{checked_shelf}
+use Rattle.holdings.proofs.Parts.{fitting}
 use Rattle.codec_laws.specs.Code.{Code, Bytes, Exact, Free}
 use Rattle.codec_laws.specs.Entries.{entry_code, state_code, rule_code}
 use Rattle.codec_laws.proofs.Overs.{length_over}

@@ -18,12 +18,12 @@ use Rattle.table.specs.Table.{Table, stretch, final_total_of, rule_total_of, all
 use Rattle.table.specs.Check.{Checked, next, unless, each, limits_of, check_state_lem, check_rule_lem, check_final_lem, check_output_lem, check_rule_outputs_lem, check_overlaps_lem, checked}
 use Rattle.filter.proofs.Finals.{stretch_is}
 use Rattle.filter.proofs.Finds.{total_upto}
-use Rattle.shelf_holdings.specs.declared.memory.Entry.{Entry}
+use Rattle.holdings.specs.declared.memory.Entry.{Entry}
 use Rattle.answers.specs.declared.fault.Fault.{Fault}
 use Rattle.answers.specs.declared.fault.Fault.TheVariants.{Unsound}
-use Rattle.shelf_holdings.specs.Memory.{Memory, in_use, states_of_lem, rules_of, outputs_of_lem, fits, holding}
-use Rattle.shelf_holdings.specs.Check.{next as later, check_from, checked_shelf}
-use Rattle.shelf_holdings.proofs.Parts.{fitting}
+use Rattle.holdings.specs.Memory.{Memory, in_use, states_of_lem, rules_of, outputs_of_lem, fits, holding}
+use Rattle.holdings.specs.Check.{next as later, check_from, checked_shelf}
+use Rattle.holdings.proofs.Parts.{fitting}
 use Rattle.codec_laws.proofs.Laws.{cong3}
 use Rattle.stored_laws.specs.Format.{counts_of, body_size}
 use Rattle.stored_laws.specs.Shelved.{tables_from, tables_of}

@@ -7,10 +7,10 @@ use Rattle.std.proofs.lemmas.Bool.Decides.{nat_tests}
 use Rattle.table.specs.declared.entries.State.{State}
 use Rattle.table.specs.declared.entries.Rule.{Rule}
 use Rattle.table.specs.Table.{Table}
-use Rattle.shelf_holdings.specs.declared.memory.Entry.{Entry}
-use Rattle.shelf_holdings.specs.declared.memory.Head.{Head}
-use Rattle.shelf_holdings.specs.Memory.{Memory, states_of_lem, rules_of, outputs_of_lem, opened}
-use Rattle.shelf_holdings.specs.Append.{over, appended}
+use Rattle.holdings.specs.declared.memory.Entry.{Entry}
+use Rattle.holdings.specs.declared.memory.Head.{Head}
+use Rattle.holdings.specs.Memory.{Memory, states_of_lem, rules_of, outputs_of_lem, opened}
+use Rattle.holdings.specs.Append.{over, appended}
 use Rattle.codec_laws.specs.Code.{Code}
 use Rattle.codec_laws.proofs.Overs.{length_over, over_more, over_none, set_over}
 use Rattle.stored_laws.specs.Format.{counts_of, body_size, table_in, tables_in}

@@ -2,7 +2,7 @@
 use Rattle.std.specs.Prelude.{ℕ, ◌+◌, ◌*◌, Bool, cond, List, [], ◌∷◌, ◌++◌, map, length, drop, Some, None, Ok, Err, sum_by, Option, Result, ◌==◌, nat_le}
 use Rattle.std.specs.List.{flat_map}
 use Rattle.table.specs.Table.{Table}
-use Rattle.shelf_holdings.specs.declared.memory.Entry.{Entry}
+use Rattle.holdings.specs.declared.memory.Entry.{Entry}
 use Rattle.codec_laws.specs.Code.{Code}
 use Rattle.codec_laws.specs.Numbers.{at}
 use Rattle.codec_laws.specs.Entries.{entry_code, state_code, rule_code}

@@ -6,11 +6,11 @@ use Rattle.table.specs.declared.entries.State.{State}
 use Rattle.table.specs.declared.entries.Rule.{Rule}
 use Rattle.table.specs.Table.{Table}
 use Rattle.table.specs.Results.{map_err}
-use Rattle.shelf_holdings.specs.declared.memory.Entry.{Entry}
-use Rattle.shelf_holdings.specs.declared.memory.Head.{Head}
-use Rattle.shelf_holdings.specs.Memory.{Memory, in_use, holding}
-use Rattle.shelf_holdings.specs.Check.{checked_shelf}
-use Rattle.shelf_holdings.specs.Append.{over}
+use Rattle.holdings.specs.declared.memory.Entry.{Entry}
+use Rattle.holdings.specs.declared.memory.Head.{Head}
+use Rattle.holdings.specs.Memory.{Memory, in_use, holding}
+use Rattle.holdings.specs.Check.{checked_shelf}
+use Rattle.holdings.specs.Append.{over}
 use Rattle.codec_laws.specs.Code.{Code}
 use Rattle.stored_laws.specs.declared.StoredFault.{StoredFault}
 use Rattle.stored_laws.specs.declared.StoredFault.TheVariants.{TooShort, Shelf}

@@ -1,10 +1,9 @@
 -- One turn of the check of all rules' outputs.
-use Rattle.std.proofs.Common.{◌≡◌, ℕ, ◌+◌, ◌<◌, List, length, get_or, take, drop, Ok, Err, sym, ap, ◌∙◌}
+use Rattle.std.proofs.Common.{◌≡◌, ℕ, ◌+◌, ◌<◌, List, length, get_or, take, drop, Ok, sym, ap, ◌∙◌}
 use Rattle.std.proofs.lemmas.List.{at_drop_more, drop-drop}
 use Rattle.std.proofs.lemmas.List.Sums.{sum_by-drop_more}
 use Rattle.alphabet.specs.Model.{Model}
 use Rattle.table.specs.declared.entries.Rule.{Rule}
-use Rattle.table.specs.declared.fault.TableFault.{TableFault}
 use Rattle.table.specs.Table.{rule_total_of}
 use Rattle.table.specs.Check.{Checked, each, next, check_output_lem, check_rule_outputs_lem}
 
@@ -23,9 +22,6 @@ module _ {G T : Type 0} (m : Model G T) (rules : List (Rule G)) (ts : List T) (k
       ∙ ap (λ (x : Rule G). next (each (check_output_lem m x.guard) k (take x.outputs (drop k ts))) (check_rule_outputs_lem m (k + x.outputs) (drop (i + 1) rules) (drop x.outputs (drop k ts)))) (sym read)
       ∙ ap (λ p. next p (rest (drop r.outputs (drop k ts)))) e
       ∙ ap (λ l. next o (rest l)) (drop-drop r.outputs k ts)
-
-  pub outputs_stop : (f : TableFault) → Here (Err f) → check_rule_outputs_lem m k (drop i rules) (drop k ts) ≡ Err f
-  outputs_stop f e = turn (Err f) e
 
   pub outputs_go_on : Here (Ok tt) → check_rule_outputs_lem m k (drop i rules) (drop k ts) ≡ check_rule_outputs_lem m (k + r.outputs) (drop (i + 1) rules) (drop (k + r.outputs) ts)
   outputs_go_on e = turn (Ok tt) e

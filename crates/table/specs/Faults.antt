@@ -1,5 +1,6 @@
 -- The number and the values of each fault of a table.
-use Rattle.std.specs.Prelude.{ℕ, Some, None, Option}
+use Rattle.std.specs.Prelude.{ℕ, List, ◌∷◌, ◌++◌, Some, None, Option}
+use Rattle.std.specs.Fmt.{decimal}
 use Rattle.alphabet.specs.declared.cause.Cause.{Cause}
 use Rattle.table.specs.declared.fault.FaultCode.{FaultCode}
 use Rattle.table.specs.declared.fault.TableFault.{TableFault}
@@ -18,3 +19,7 @@ code_of OutputCount = code 8 0 None
 code_of (NotConstant k) = code 9 k None
 code_of (UnsoundOutput k c) = code 10 k (Some c)
 code_of (Overlap i) = code 11 i None
+
+-- a code as it is printed: the number, a space, the place
+abbrev pub code_text : FaultCode → List ℕ
+code_text c = decimal c.number ++ (32 ∷ decimal c.place)

@@ -1,12 +1,14 @@
 // The check of a table: its first fault, for any three lists.
-ghost use Rattle.std.specs.Prelude.{◌≡◌, ◌+◌, ◌*◌, ◌<◌, ◌≤◌, [], length, drop, Ok};
+ghost use Rattle.std.specs.Prelude.{◌≡◌, ◌+◌, ◌*◌, ◌<◌, ◌≤◌, [], length, drop, sum_by, Ok};
 ghost use Rattle.alphabet.specs.Model.{SoundGuard};
+ghost use Rattle.table.specs.Results.{map_err};
+ghost use Rattle.table.specs.declared.fault.TableFault.TheVariants.{UnsoundOutput};
 ghost use Rattle.table.specs.Table.{table_of, final_total_of, rule_total_of};
-ghost use Rattle.table.specs.Check.{each, limits_of, check_state_lem, check_rule_lem, check_final_lem, check_output_lem, check_rule_outputs_lem, check_overlaps_lem, clash, checked, SoundGuards};
+ghost use Rattle.table.specs.Check.{each, limits_of, check_state_lem, check_rule_lem, check_final_lem, check_output_lem, check_rule_outputs_lem, check_overlaps_lem, clash, clashes, checked, SoundGuards};
 ghost use Rattle.table.specs.Sound.{Sound};
 
-use crate::entries::{Draft, Rule, State};
-use crate::fault::{TableFault, at_output, at_rule};
+use crate::entries::{Draft, Owner, Rule, State};
+use crate::fault::TableFault;
 use alphabet::{Alphabet, Cause, least_shared};
 
 // The most states, rules and outputs of a table, and the most outputs of one rule or state.
@@ -59,7 +61,7 @@ fn check_rule<A: Alphabet>(
     if rule.state as usize >= states || rule.next as usize >= states {
         return Err(TableFault::MissingState(number));
     }
-    at_rule(number, A::check_guard(rule.guard))?;
+    A::check_guard(rule.guard).map_err(|cause| TableFault::UnsoundGuard(number, cause))?;
     if rule.outputs > MOST_AT_ONCE {
         return Err(TableFault::LongOutput(number));
     }
@@ -75,36 +77,39 @@ fn check_rules<A: Alphabet>(states: usize, rules: &[Rule<A::Guard>]) -> Result<(
     Ok(())
 }
 
+// How many outputs these own together.
+pub fn total<O: Owner>(owners: &[O]) -> usize
+    requires { length owners.now ≤ 1024 }
+    ensures total { result ≡ sum_by O.count owners.now }
+    ensures bound { result ≤ 65535 * length owners.now }
+{
+    let mut total = 0;
+    for owner in owners {
+        total += owner.outputs() as usize;
+    }
+    total
+}
+
 // How many final outputs the states ask for.
 pub fn final_total(states: &[State]) -> usize
     requires { length states.now ≤ 64 }
     ensures total { result ≡ final_total_of states.now }
     ensures bound { result ≤ 65535 * 64 }
 {
-    let mut total = 0;
-    for state in states {
-        total += state.finals as usize;
-    }
-    total
+    total(states)
 }
 
-// How many outputs the rules ask for.
-fn rule_total<G: Copy>(rules: &[Rule<G>]) -> usize
-    requires { length rules.now ≤ 1024 }
-    ensures total { result ≡ rule_total_of rules.now }
-    ensures bound { result ≤ 65535 * 1024 }
+// Whether a term is sound.
+fn check_term<A: Alphabet>(number: usize, term: A::Term) -> Result<(), TableFault>
+    ensures { result ≡ map_err (UnsoundOutput number) (A.model.check_term term) }
 {
-    let mut total = 0;
-    for rule in rules {
-        total += rule.outputs as usize;
-    }
-    total
+    A::check_term(term).map_err(|cause| TableFault::UnsoundOutput(number, cause))
 }
 
 fn check_final<A: Alphabet>(number: usize, term: A::Term) -> Result<(), TableFault>
     ensures { result ≡ check_final_lem A.model number term }
 {
-    at_output(number, A::check_term(term))?;
+    check_term::<A>(number, term)?;
     match A::constant_value(term) {
         Some(_) => Ok(()),
         None => Err(TableFault::NotConstant(number)),
@@ -128,7 +133,7 @@ fn check_output<A: Alphabet>(
     requires { SoundGuard A.model guard }
     ensures { result ≡ check_output_lem A.model guard number term }
 {
-    at_output(number, A::check_term(term))?;
+    check_term::<A>(number, term)?;
     if A::suits(term, guard) {
         Ok(())
     } else {
@@ -181,20 +186,30 @@ fn do_clash<A: Alphabet>(earlier: Rule<A::Guard>, later: Rule<A::Guard>) -> bool
     earlier.state == later.state && least_shared::<A>(earlier.guard, later.guard).is_some()
 }
 
+// Whether a rule clashes with one of those before it.
+fn clashes<A: Alphabet>(rule: Rule<A::Guard>, earlier: &[Rule<A::Guard>]) -> bool
+    requires rule { SoundGuard A.model rule.guard }
+    requires earlier { SoundGuards A.model earlier.now }
+    ensures { result ≡ clashes A.model rule earlier.now }
+{
+    for other in earlier {
+        if do_clash::<A>(*other, rule) {
+            return true;
+        }
+    }
+    false
+}
+
 fn check_overlaps<A: Alphabet>(rules: &[Rule<A::Guard>]) -> Result<(), TableFault>
     requires { SoundGuards A.model rules.now }
     ensures { result ≡ check_overlaps_lem A.model 0 [] rules.now }
 {
-    let mut found = Ok(());
-    'pairs: for later in 0..rules.len() {
-        for earlier in 0..later {
-            if do_clash::<A>(rules[earlier], rules[later]) {
-                found = Err(TableFault::Overlap(later));
-                break 'pairs;
-            }
+    for (later, rule) in rules.iter().enumerate() {
+        if clashes::<A>(*rule, &rules[..later]) {
+            return Err(TableFault::Overlap(later));
         }
     }
-    found
+    Ok(())
 }
 
 impl<'a, A: Alphabet> Draft<'a, A> {
@@ -207,7 +222,7 @@ impl<'a, A: Alphabet> Draft<'a, A> {
         check_states(self.states)?;
         check_rules::<A>(self.states.len(), self.rules)?;
         let finals = final_total(self.states);
-        if self.outputs.len() != finals + rule_total(self.rules) {
+        if self.outputs.len() != finals + total(self.rules) {
             return Err(TableFault::OutputCount);
         }
         check_finals::<A>(&self.outputs[0..finals])?;

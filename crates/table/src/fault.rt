@@ -1,11 +1,9 @@
 // The faults of a table, each with its place, and with the cause where the alphabet gives one.
-ghost use Rattle.std.specs.Prelude.{◌≡◌};
-ghost use Rattle.alphabet.specs.declared.cause.Cause.{Cause as Why};
-ghost use Rattle.table.specs.declared.fault.TableFault.TheVariants.{UnsoundGuard, UnsoundOutput};
-ghost use Rattle.table.specs.Faults.{code_of};
-ghost use Rattle.table.specs.Results.{map_err};
+ghost use Rattle.std.specs.Prelude.{◌≡◌, Some};
+ghost use Rattle.table.specs.Faults.{code_of, code_text};
 
 use alphabet::Cause;
+use std::fmt;
 
 // In the order in which they are looked for. States, rules and outputs are numbered from 0 within their lists.
 #[derive(Clone, Copy, Debug, PartialEq)]
@@ -61,52 +59,13 @@ impl TableFault {
     }
 }
 
-// A cause at the guard of a rule.
-#[derive(Clone, Copy)]
-pub struct AtRule {
-    pub rule: usize,
-    pub cause: Cause,
-}
+// The number and the place.
+impl fmt::Display for FaultCode {
+    ghost output = { λ c. Some (code_text c) };
 
-// A cause at an output.
-#[derive(Clone, Copy)]
-pub struct AtOutput {
-    pub output: usize,
-    pub cause: Cause,
-}
-
-impl From<AtRule> for TableFault {
-    ghost from_gives = { λ a r. r ≡ UnsoundGuard a.rule a.cause };
-
-    fn from(at: AtRule) -> TableFault {
-        TableFault::UnsoundGuard(at.rule, at.cause)
-    }
-}
-
-impl From<AtOutput> for TableFault {
-    ghost from_gives = { λ a r. r ≡ UnsoundOutput a.output a.cause };
-
-    fn from(at: AtOutput) -> TableFault {
-        TableFault::UnsoundOutput(at.output, at.cause)
-    }
-}
-
-// The answer about a guard, with the rule's number beside a cause.
-pub fn at_rule(rule: usize, answer: Result<(), Cause>) -> Result<(), AtRule>
-    ensures { result ≡ map_err (λ (c : Why). record { rule = rule; cause = c }) answer }
-{
-    match answer {
-        Ok(()) => Ok(()),
-        Err(cause) => Err(AtRule { rule, cause }),
-    }
-}
-
-// The answer about a term, with the output's number beside a cause.
-pub fn at_output(output: usize, answer: Result<(), Cause>) -> Result<(), AtOutput>
-    ensures { result ≡ map_err (λ (c : Why). record { output = output; cause = c }) answer }
-{
-    match answer {
-        Ok(()) => Ok(()),
-        Err(cause) => Err(AtOutput { output, cause }),
+    fn fmt<W: fmt::Write>(&self, f: &mut fmt::Formatter<W>) -> fmt::Result {
+        let number = self.number;
+        let place = self.place;
+        write!(f, "{number} {place}")
     }
 }

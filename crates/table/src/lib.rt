@@ -4,7 +4,9 @@
 pub mod check;
 pub mod entries;
 pub mod fault;
+pub mod sound;
 
-pub use check::final_total;
-pub use entries::{Draft, Rule, State};
+pub use check::{final_total, total};
+pub use entries::{Draft, Owner, Rule, State};
 pub use fault::{FaultCode, TableFault};
+pub use sound::Filter;

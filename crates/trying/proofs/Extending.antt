@@ -1,8 +1,9 @@
 -- The step that goes on from one of the steps.
-use Rattle.std.proofs.Common.{◌≡◌, ℕ, ◌+◌, ◌*◌, ◌<◌, ◌≤◌, false, List, length, sym, ap, ◌∙◌, subst, add-mul, mul-le-mul, one-mul, arith}
+use Rattle.std.proofs.Common.{◌≡◌, ℕ, ◌+◌, ◌*◌, ◌<◌, ◌≤◌, List, length, sym, ap, ◌∙◌, subst, add-mul, mul-le-mul, one-mul, arith}
 use Rattle.alphabet.specs.Model.{Model}
 use Rattle.table.specs.Table.{Table}
 use Rattle.steps.specs.declared.step.Side.{Side}
+use Rattle.steps.specs.declared.step.Visit.TheVariants.{First}
 use Rattle.steps.specs.declared.step.Step.{Step}
 use Rattle.steps.specs.Steps.{at, text}
 use Rattle.steps.specs.Places.{steps_needed_lem}
@@ -28,7 +29,7 @@ module _ {G T : Type 0} (m : Model G T) (F H : Table G T) (f : Frame) (B : Frame
     (k : ℕ) (within : k < length L) (few : length L ≤ steps_needed_lem f.left f.right) (s : ℕ) (l r : Side)
     (left : Moved m F (at L k).left s l) (right : Moved m H (at L k).right s r)
     (lefts : (at L k).left.total ≤ k * f.width) (rights : (at L k).right.total ≤ k * f.width) where
-  pub extends_made : Extends m F H f.left f.right f.width L (record { parent = k; symbol = s; left = l; right = r; again = false })
+  pub extends_made : Extends m F H f.left f.right f.width L (record { parent = k; symbol = s; left = l; right = r; visit = First })
   extends_made =
       let a = R.left.stands k within in
       let b = R.right.stands k within in

@@ -1,5 +1,5 @@
 -- One step more behind the others.
-use Rattle.std.proofs.Common.{◌≡◌, ℕ, ◌+◌, ◌*◌, ◌<◌, ◌≤◌, Bool, true, List, [], ◌∷◌, ◌++◌, length, get_or, set, Option, sym, refl, ap, ◌∙◌, subst, mul-le-mul_right, arith}
+use Rattle.std.proofs.Common.{◌≡◌, ℕ, ◌+◌, ◌*◌, ◌<◌, ◌≤◌, List, [], ◌∷◌, ◌++◌, length, get_or, set, Option, sym, refl, ap, ◌∙◌, subst, mul-le-mul_right, arith}
 use native.Mathlib.Decide.{dec_lt}
 use Rattle.std.proofs.lemmas.List.{length-append, get_or_append_left, get_or_push, get_or-set_same, get_or-set_other, map-append}
 use Rattle.machine.specs.Lag.{lag_of}
@@ -10,6 +10,8 @@ use Rattle.machine.proofs.Turns.{partway_grown, partway_skipped, partway_turned}
 use Rattle.alphabet.specs.Model.{Model}
 use Rattle.table.specs.Table.{Table}
 use Rattle.filter.specs.Machines.{machine_of}
+use Rattle.steps.specs.declared.step.Visit.{Visit}
+use Rattle.steps.specs.declared.step.Visit.TheVariants.{Second}
 use Rattle.steps.specs.declared.step.Step.{Step}
 use Rattle.steps.specs.declared.step.Hand.{Hand}
 use Rattle.steps.specs.declared.step.Hand.TheVariants.{Left, Right}
@@ -80,18 +82,18 @@ module _ (L : List Step) (y : Step) where
 
 module _ {G T : Type 0} (m : Model G T) (F H : Table G T) (p q w : ℕ) (L : List Step) (C : List ℕ) where
   -- a step with its visit
-  abbrev pub marked : Step → Bool → Step
-  marked x again = record { parent = x.parent; symbol = x.symbol; left = x.left; right = x.right; again = again }
+  abbrev pub marked : Step → Visit → Step
+  marked x visit = record { parent = x.parent; symbol = x.symbol; left = x.left; right = x.right; visit = visit }
 
-  module _ (K : Kept m F H p q w L C) (x : Step) (E : Extends m F H p q w L x) (again : Bool) (proper : ProperAt p q (marked x again))
-      (within : place_at p q (marked x again) < length C)
-      (fresh : (i : ℕ) → i < length L → place_at p q (at L i) ≡ place_at p q (marked x again) → ⊥)
-      (mate : again ≡ true → Mate m F H p q w L (text_by m F H p q w L x) x.left.state x.right.state) where
+  module _ (K : Kept m F H p q w L C) (x : Step) (E : Extends m F H p q w L x) (visit : Visit) (proper : ProperAt p q (marked x visit))
+      (within : place_at p q (marked x visit) < length C)
+      (fresh : (i : ℕ) → i < length L → place_at p q (at L i) ≡ place_at p q (marked x visit) → ⊥)
+      (mate : visit ≡ Second → Mate m F H p q w L (text_by m F H p q w L x) x.left.state x.right.state) where
     y : Step
-    y = marked x again
+    y = marked x visit
 
     M : List Step
-    M = L ++ (marked x again ∷ [])
+    M = L ++ (marked x visit ∷ [])
 
     some : 0 < length L
     some = K.tracks.tree.some
@@ -101,61 +103,61 @@ module _ {G T : Type 0} (m : Model G T) (F H : Table G T) (p q w : ℕ) (L : Lis
     mate_push t l r (i, h, e, differ) = (
       i,
       simp length-append (omega arith),
-      ap (place_at p q) (at_old L (marked x again) i h) ∙ e,
-      λ f. differ (ap (lag_of (machine_of m F) (machine_of m H)) (sym (text_old L (marked x again) some i h)) ∙ f),
+      ap (place_at p q) (at_old L (marked x visit) i h) ∙ e,
+      λ f. differ (ap (lag_of (machine_of m F) (machine_of m H)) (sym (text_old L (marked x visit) some i h)) ∙ f),
     )
 
     wide : (x.parent + 1) * w ≤ length L * w
     wide = let h : x.parent + 1 ≤ length L = omega (arith, E.above) in mul-le-mul_right w h
 
-    mates_old : (i : ℕ) → i < length L → (at (L ++ (marked x again ∷ [])) i).again ≡ true
-        → Mate m F H p q w M (text M i) (at (L ++ (marked x again ∷ [])) i).left.state (at (L ++ (marked x again ∷ [])) i).right.state
+    mates_old : (i : ℕ) → i < length L → (at (L ++ (marked x visit ∷ [])) i).visit ≡ Second
+        → Mate m F H p q w M (text M i) (at (L ++ (marked x visit ∷ [])) i).left.state (at (L ++ (marked x visit ∷ [])) i).right.state
     unfolding M
     mates_old i h e =
-        let a = at_old L (marked x again) i h in
-        let old = K.mates i h (ap (λ (z : Step). z.again) (sym a) ∙ e) in
+        let a = at_old L (marked x visit) i h in
+        let old = K.mates i h (ap (λ (z : Step). z.visit) (sym a) ∙ e) in
         subst (λ (z : Step). Mate m F H p q w M (text M i) z.left.state z.right.state) (sym a)
-        (subst (λ t. Mate m F H p q w M t (at L i).left.state (at L i).right.state) (sym (text_old L (marked x again) some i h)) (mate_push (text L i) (at L i).left.state (at L i).right.state old))
+        (subst (λ t. Mate m F H p q w M t (at L i).left.state (at L i).right.state) (sym (text_old L (marked x visit) some i h)) (mate_push (text L i) (at L i).left.state (at L i).right.state old))
 
-    mates_new : (at (L ++ (marked x again ∷ [])) (length L)).again ≡ true
-        → Mate m F H p q w M (text M (length L)) (at (L ++ (marked x again ∷ [])) (length L)).left.state (at (L ++ (marked x again ∷ [])) (length L)).right.state
+    mates_new : (at (L ++ (marked x visit ∷ [])) (length L)).visit ≡ Second
+        → Mate m F H p q w M (text M (length L)) (at (L ++ (marked x visit ∷ [])) (length L)).left.state (at (L ++ (marked x visit ∷ [])) (length L)).right.state
     unfolding M
     mates_new e =
-        let a = at_new L (marked x again) in
-        let new = mate (ap (λ (z : Step). z.again) (sym a) ∙ e) in
+        let a = at_new L (marked x visit) in
+        let new = mate (ap (λ (z : Step). z.visit) (sym a) ∙ e) in
         subst (λ (z : Step). Mate m F H p q w M (text M (length L)) z.left.state z.right.state) (sym a)
-        (subst (λ t. Mate m F H p q w M t x.left.state x.right.state) (sym (text_new L (marked x again) some)) (mate_push (text_by m F H p q w L x) x.left.state x.right.state new))
+        (subst (λ t. Mate m F H p q w M t x.left.state x.right.state) (sym (text_new L (marked x visit) some)) (mate_push (text_by m F H p q w L x) x.left.state x.right.state new))
 
     -- all is kept with the new step, whose number goes into the cell of its place
-    pub kept_push : Kept m F H p q w (L ++ (marked x again ∷ [])) (set C (place_at p q (marked x again)) (length L))
+    pub kept_push : Kept m F H p q w (L ++ (marked x visit ∷ [])) (set C (place_at p q (marked x visit)) (length L))
     unfolding M
     kept_push = record {
       tracks = record {
-        tree = tree_push L (marked x again) K.tracks.tree E.above;
-        left = traced_push L (marked x again) m F Left K.tracks.tree K.tracks.left E.above E.left;
-        right = traced_push L (marked x again) m H Right K.tracks.tree K.tracks.right E.above E.right;
+        tree = tree_push L (marked x visit) K.tracks.tree E.above;
+        left = traced_push L (marked x visit) m F Left K.tracks.tree K.tracks.left E.above E.left;
+        right = traced_push L (marked x visit) m H Right K.tracks.tree K.tracks.right E.above E.right;
       };
-      lefts = each L (marked x again) (λ i. (at (L ++ (marked x again ∷ [])) i).left.total ≤ i * w)
-          (λ i h. subst (λ (z : Step). z.left.total ≤ i * w) (sym (at_old L (marked x again) i h)) (K.lefts i h))
-          (subst (λ (z : Step). z.left.total ≤ length L * w) (sym (at_new L (marked x again))) (omega (arith, wide, E.short_left)));
-      rights = each L (marked x again) (λ i. (at (L ++ (marked x again ∷ [])) i).right.total ≤ i * w)
-          (λ i h. subst (λ (z : Step). z.right.total ≤ i * w) (sym (at_old L (marked x again) i h)) (K.rights i h))
-          (subst (λ (z : Step). z.right.total ≤ length L * w) (sym (at_new L (marked x again))) (omega (arith, wide, E.short_right)));
-      placed = placed_push L (marked x again) p q C K.placed proper within fresh;
-      mates = each L (marked x again) (λ i. (at (L ++ (marked x again ∷ [])) i).again ≡ true → Mate m F H p q w (L ++ (marked x again ∷ [])) (text (L ++ (marked x again ∷ [])) i) (at (L ++ (marked x again ∷ [])) i).left.state (at (L ++ (marked x again ∷ [])) i).right.state) mates_old mates_new;
+      lefts = each L (marked x visit) (λ i. (at (L ++ (marked x visit ∷ [])) i).left.total ≤ i * w)
+          (λ i h. subst (λ (z : Step). z.left.total ≤ i * w) (sym (at_old L (marked x visit) i h)) (K.lefts i h))
+          (subst (λ (z : Step). z.left.total ≤ length L * w) (sym (at_new L (marked x visit))) (omega (arith, wide, E.short_left)));
+      rights = each L (marked x visit) (λ i. (at (L ++ (marked x visit ∷ [])) i).right.total ≤ i * w)
+          (λ i h. subst (λ (z : Step). z.right.total ≤ i * w) (sym (at_old L (marked x visit) i h)) (K.rights i h))
+          (subst (λ (z : Step). z.right.total ≤ length L * w) (sym (at_new L (marked x visit))) (omega (arith, wide, E.short_right)));
+      placed = placed_push L (marked x visit) p q C K.placed proper within fresh;
+      mates = each L (marked x visit) (λ i. (at (L ++ (marked x visit ∷ [])) i).visit ≡ Second → Mate m F H p q w (L ++ (marked x visit ∷ [])) (text (L ++ (marked x visit ∷ [])) i) (at (L ++ (marked x visit ∷ [])) i).left.state (at (L ++ (marked x visit ∷ [])) i).right.state) mates_old mates_new;
     }
 
     -- there is a slot for it
     pub push_room : length L < steps_needed_lem p q
-    push_room = let l = length-append L (marked x again ∷ []) in omega (arith, place_room p q (L ++ (marked x again ∷ [])) (set C (place_at p q (marked x again)) (length L)) kept_push.placed)
+    push_room = let l = length-append L (marked x visit ∷ []) in omega (arith, place_room p q (L ++ (marked x visit ∷ [])) (set C (place_at p q (marked x visit)) (length L)) kept_push.placed)
 
     -- the search goes on behind it
-    pub going_push : Going m F H p q w L C x.parent x.symbol → Going m F H p q w (L ++ (marked x again ∷ [])) (set C (place_at p q (marked x again)) (length L)) x.parent (x.symbol + 1)
+    pub going_push : Going m F H p q w L C x.parent x.symbol → Going m F H p q w (L ++ (marked x visit ∷ [])) (set C (place_at p q (marked x visit)) (length L)) x.parent (x.symbol + 1)
     going_push D =
         let node : Step → ℕ × ℕ = λ z. (z.parent, z.symbol) in
         record {
           kept = kept_push;
-          way = subst (λ ns. Partway (machine_of m F) (machine_of m H) (texts ns) x.parent (x.symbol + 1)) (sym (map-append node L (marked x again ∷ [])))
+          way = subst (λ ns. Partway (machine_of m F) (machine_of m H) (texts ns) x.parent (x.symbol + 1)) (sym (map-append node L (marked x visit ∷ [])))
               (partway_grown (machine_of m F) (machine_of m H) (nodes_of L) x.parent x.symbol D.way);
         }
 

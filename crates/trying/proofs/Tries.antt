@@ -1,5 +1,5 @@
 -- Trying a symbol: the longer text is covered, or a step is made for it.
-use Rattle.std.proofs.Common.{◌≡◌, ℕ, ◌+◌, ◌<◌, ◌≤◌, Bool, true, cond, ltb, List, [], ◌∷◌, ◌++◌, length, set, Some, None, Ok, Err, Option, Result, sym, refl, ap, ◌∙◌, subst, arith}
+use Rattle.std.proofs.Common.{◌≡◌, ℕ, ◌+◌, ◌<◌, ◌≤◌, true, cond, ltb, List, [], ◌∷◌, ◌++◌, length, set, Some, None, Ok, Err, Option, Result, sym, refl, ap, ◌∙◌, subst, arith}
 use Rattle.std.proofs.lemmas.List.{get_or_append_left}
 use Rattle.std.proofs.lemmas.Bool.{lt-ltb}
 use Rattle.machine.specs.Sides.{Arrives}
@@ -8,6 +8,7 @@ use Rattle.machine.proofs.Covers.{covered_dead}
 use Rattle.alphabet.specs.Model.{Model}
 use Rattle.table.specs.Table.{Table}
 use Rattle.filter.specs.Machines.{machine_of}
+use Rattle.steps.specs.declared.step.Visit.{Visit}
 use Rattle.steps.specs.declared.step.Step.{Step}
 use Rattle.steps.specs.Steps.{blank, at, text}
 use Rattle.steps.specs.Places.{steps_needed_lem, place_of}
@@ -57,18 +58,18 @@ module _ {G T : Type 0} (m : Model G T) (F H : Table G T) (p q w : ℕ) (L : Lis
         let n = dead_both x.left.state x.right.state e in
         covered_step (covered_dead (machine_of m F) (machine_of m H) (text_by m F H p q w L x) (E.left.state ∙ n.0, E.right.state ∙ n.1))
 
-    module _ (again : Bool) (J : Judged m F H p q w L x (Some again)) (cells : steps_needed_lem p q ≤ length C) where
-      pub place_within : place_of p q x.left.state x.right.state again < length C
-      place_within = omega (arith, place_below p q x.left.state x.right.state again J.0)
+    module _ (visit : Visit) (J : Judged m F H p q w L x (Some visit)) (cells : steps_needed_lem p q ≤ length C) where
+      pub place_within : place_of p q x.left.state x.right.state visit < length C
+      place_within = omega (arith, place_below p q x.left.state x.right.state visit J.0)
 
       pub slot_left : length L < steps_needed_lem p q
-      slot_left = push_room m F H p q w L C D.kept x E again J.0 place_within J.1 J.2
+      slot_left = push_room m F H p q w L C D.kept x E visit J.0 place_within J.1 J.2
 
-      pub made_step : Going m F H p q w (L ++ (marked m F H p q w L C x again ∷ [])) (set C (place_of p q x.left.state x.right.state again) (length L)) k (s + 1)
-      made_step = back _ _ (going_push m F H p q w L C D.kept x E again J.0 place_within J.1 J.2 going_next)
+      pub made_step : Going m F H p q w (L ++ (marked m F H p q w L C x visit ∷ [])) (set C (place_of p q x.left.state x.right.state visit) (length L)) k (s + 1)
+      made_step = back _ _ (going_push m F H p q w L C D.kept x E visit J.0 place_within J.1 J.2 going_next)
 
-      pub step_stays : at (L ++ (marked m F H p q w L C x again ∷ [])) k ≡ at L k
-      step_stays = get_or_append_left L (marked m F H p q w L C x again ∷ []) blank k going_within
+      pub step_stays : at (L ++ (marked m F H p q w L C x visit ∷ [])) k ≡ at L k
+      step_stays = get_or_append_left L (marked m F H p q w L C x visit ∷ []) blank k going_within
 
   -- where the filters stand at the step
   here : (x : Step) → x ≡ at L k → Arrives (machine_of m F) (machine_of m H) (text L k) x.left.state x.right.state

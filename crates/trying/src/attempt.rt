@@ -2,131 +2,125 @@
 ghost use Rattle.std.specs.Prelude.{◌≡◌, ◌+◌, ◌*◌, ◌<◌, ◌≤◌, true, false, length};
 ghost use Rattle.queue.specs.Held.{entries as entries_of, room as slots_of};
 ghost use Rattle.table.specs.Table.{table_of};
-ghost use Rattle.table.specs.Sound.{Sound};
 ghost use Rattle.steps.specs.Steps.{at as step_at};
 ghost use Rattle.steps.specs.Places.{steps_needed_lem};
 ghost use Rattle.replay.specs.Replays.{Tracks};
-ghost use Rattle.judging.specs.Frames.{Framed, both_dead_lem};
+ghost use Rattle.judging.specs.Frames.{both_dead_lem};
 ghost use Rattle.judging.specs.Kept.{Kept, Going, Turned, Extends};
 
 use alphabet::Alphabet;
 use classes::next_symbol;
-use judging::frame::Frame;
+use judging::FilterPair;
 use judging::judge::judge;
 use moves::onward;
 use queue::Queue;
-use steps::{Step, place_of};
-use table::Draft;
+use steps::{Step, Visit, place_of};
 
 // Whether no side has a state.
 fn both_dead(left: Option<u16>, right: Option<u16>) -> bool
     ensures { result ≡ both_dead_lem left right }
 {
-    match (left, right) {
-        (None, None) => true,
-        _ => false,
-    }
+    left.is_none() && right.is_none()
 }
 
 // The step that goes on from one of the steps by a symbol.
 fn extension<A: Alphabet>(
-    left: &Draft<'_, A>,
-    right: &Draft<'_, A>,
-    frame: Frame,
+    pair: &FilterPair<'_, '_, A>,
     steps: &[Step],
     number: usize,
     symbol: u32,
 ) -> Step
-    requires left { Sound A.model (table_of left.now) }
-    requires right { Sound A.model (table_of right.now) }
-    requires framed { Framed (table_of left.now) (table_of right.now) frame }
-    requires tracks { Tracks A.model (table_of left.now) (table_of right.now) steps.now }
+    requires tracks { Tracks A.model (table_of pair.now.left.now.draft) (table_of pair.now.right.now.draft) steps.now }
     requires within { number < length steps.now }
-    requires few { length steps.now ≤ steps_needed_lem frame.left frame.right }
-    requires lefts { (step_at steps.now number).left.total ≤ number * frame.width }
-    requires rights { (step_at steps.now number).right.total ≤ number * frame.width }
+    requires few { length steps.now ≤ steps_needed_lem pair.now.frame.left pair.now.frame.right }
+    requires lefts { (step_at steps.now number).left.total ≤ number * pair.now.frame.width }
+    requires rights { (step_at steps.now number).right.total ≤ number * pair.now.frame.width }
     ensures parent { result.parent ≡ number }
     ensures symbol { result.symbol ≡ symbol }
-    ensures extends { Extends A.model (table_of left.now) (table_of right.now) frame.left frame.right frame.width steps.now result }
+    ensures extends { Extends A.model (table_of pair.now.left.now.draft) (table_of pair.now.right.now.draft) pair.now.frame.left pair.now.frame.right pair.now.frame.width steps.now result }
 {
     let step = steps[number];
     Step {
         parent: number as u16,
         symbol,
-        left: onward(left, frame.left_first, step.left, symbol),
-        right: onward(right, frame.right_first, step.right, symbol),
-        again: false,
+        left: onward(pair.left, pair.frame.left_first, step.left, symbol),
+        right: onward(pair.right, pair.frame.right_first, step.right, symbol),
+        visit: Visit::First,
     }
 }
 
 // Tries a symbol behind the text of a step: a step is made for the longer text if that is worth one.
 pub fn attempt<A: Alphabet>(
-    left: &Draft<'_, A>,
-    right: &Draft<'_, A>,
-    frame: Frame,
+    pair: &FilterPair<'_, '_, A>,
     queue: &mut Queue<'_, Step>,
     cells: &mut [u32],
     number: usize,
     symbol: u32,
     outputs: &mut [u32],
 )
-    requires left { Sound A.model (table_of left.now) }
-    requires right { Sound A.model (table_of right.now) }
-    requires framed { Framed (table_of left.now) (table_of right.now) frame }
-    requires slots { steps_needed_lem frame.left frame.right ≤ slots_of queue.old }
-    requires cells { steps_needed_lem frame.left frame.right ≤ length cells.old }
-    requires room { 4 * frame.room ≤ length outputs.old }
-    requires going { Going A.model (table_of left.now) (table_of right.now) frame.left frame.right frame.width (entries_of queue.old) cells.old number symbol }
-    ensures going { Going A.model (table_of left.now) (table_of right.now) frame.left frame.right frame.width (entries_of queue.new) cells.new number (symbol + 1) }
+    requires slots { steps_needed_lem pair.now.frame.left pair.now.frame.right ≤ slots_of queue.old }
+    requires cells { steps_needed_lem pair.now.frame.left pair.now.frame.right ≤ length cells.old }
+    requires room { 4 * pair.now.frame.room ≤ length outputs.old }
+    requires going { Going A.model (table_of pair.now.left.now.draft) (table_of pair.now.right.now.draft) pair.now.frame.left pair.now.frame.right pair.now.frame.width (entries_of queue.old) cells.old number symbol }
+    ensures going { Going A.model (table_of pair.now.left.now.draft) (table_of pair.now.right.now.draft) pair.now.frame.left pair.now.frame.right pair.now.frame.width (entries_of queue.new) cells.new number (symbol + 1) }
     ensures step { step_at (entries_of queue.new) number ≡ step_at (entries_of queue.old) number }
     ensures taken { queue.new.taken ≡ queue.old.taken }
     ensures slots { slots_of queue.new ≡ slots_of queue.old }
 {
-    let next = extension(left, right, frame, queue.entries(), number, symbol);
+    let next = extension(pair, queue.entries(), number, symbol);
     if both_dead(next.left.state, next.right.state) {
         return;
     }
-    let Some(again) = judge(left, right, frame, queue.entries(), cells, next, outputs) else {
+    let Some(visit) = judge(
+        &pair.left.draft,
+        &pair.right.draft,
+        pair.frame,
+        queue.entries(),
+        cells,
+        next,
+        outputs,
+    ) else {
         return;
     };
     let place = place_of(
-        frame.left,
-        frame.right,
+        pair.frame.left,
+        pair.frame.right,
         next.left.state,
         next.right.state,
-        again,
+        visit,
     );
-    if let Ok(made) = queue.push(Step { again, ..next }) {
+    if let Ok(made) = queue.push(Step { visit, ..next }) {
         cells[place] = made as u32;
     }
 }
 
 // Tries every symbol worth trying behind the text of a step.
 pub fn expand<A: Alphabet>(
-    left: &Draft<'_, A>,
-    right: &Draft<'_, A>,
-    frame: Frame,
+    pair: &FilterPair<'_, '_, A>,
     queue: &mut Queue<'_, Step>,
     cells: &mut [u32],
     number: usize,
     step: Step,
     outputs: &mut [u32],
 )
-    requires left { Sound A.model (table_of left.now) }
-    requires right { Sound A.model (table_of right.now) }
-    requires framed { Framed (table_of left.now) (table_of right.now) frame }
-    requires slots { steps_needed_lem frame.left frame.right ≤ slots_of queue.old }
-    requires cells { steps_needed_lem frame.left frame.right ≤ length cells.old }
-    requires room { 4 * frame.room ≤ length outputs.old }
+    requires slots { steps_needed_lem pair.now.frame.left pair.now.frame.right ≤ slots_of queue.old }
+    requires cells { steps_needed_lem pair.now.frame.left pair.now.frame.right ≤ length cells.old }
+    requires room { 4 * pair.now.frame.room ≤ length outputs.old }
     requires step { step ≡ step_at (entries_of queue.old) number }
-    requires going { Going A.model (table_of left.now) (table_of right.now) frame.left frame.right frame.width (entries_of queue.old) cells.old number 0 }
-    ensures turned { Turned A.model (table_of left.now) (table_of right.now) frame.left frame.right frame.width (entries_of queue.new) cells.new (number + 1) }
+    requires going { Going A.model (table_of pair.now.left.now.draft) (table_of pair.now.right.now.draft) pair.now.frame.left pair.now.frame.right pair.now.frame.width (entries_of queue.old) cells.old number 0 }
+    ensures turned { Turned A.model (table_of pair.now.left.now.draft) (table_of pair.now.right.now.draft) pair.now.frame.left pair.now.frame.right pair.now.frame.width (entries_of queue.new) cells.new (number + 1) }
     ensures taken { queue.new.taken ≡ queue.old.taken }
     ensures slots { slots_of queue.new ≡ slots_of queue.old }
 {
     let mut from = 0;
-    while let Some(symbol) = next_symbol(left, right, step.left.state, step.right.state, from) {
-        attempt(left, right, frame, queue, cells, number, symbol, outputs);
+    while let Some(symbol) = next_symbol(
+        pair.left,
+        pair.right,
+        step.left.state,
+        step.right.state,
+        from,
+    ) {
+        attempt(pair, queue, cells, number, symbol, outputs);
         from = symbol + 1;
     }
 }

@@ -11,6 +11,7 @@ use borrow.Rule.Slice.PartMut.{put_mid}
 use Rattle.join_states.specs.Ended.{Room, EndedAll}
 use Rattle.join.specs.Filled.{Written}
 use Rattle.join.proofs.Fillings.{fits_lines, fits_finals, all_written}
+use Rattle.table.proofs.Soundness.{sound_from_checked}
 use Rattle.join.proofs.fill.Goals as goal
 
 pub returns-in_err-counts : goal.returns-in_err-counts
@@ -18,8 +19,8 @@ unfolding joined
 returns-in_err-counts g c =
     let m = g.A.Alphabet.model in
     let law = g.A.Alphabet.laws in
-    let F = table_of c.args.first.now in
-    let H = table_of c.args.second.now in
+    let F = table_of c.args.first.now.draft in
+    let H = table_of c.args.second.now.draft in
     let P = pairs m F H in
     let fs = map (final_at m F H) P in
     let ls = lines_for (ways_at m F H) P 0 P in
@@ -27,7 +28,7 @@ returns-in_err-counts g c =
     let r = err_from_is_err_and c.from_residual.result c.from_residual.ensures.1 in
     record {
       fills = rw r.1 (λ f. over (simp (length-map) at f.states) (fits_lines m fs ls (room c.args.queue.now) c.args.rules.now c.args.outputs.now f));
-      composes = joins m law F H c.requires.first c.requires.second;
+      composes = joins m law F H (sound_from_checked g.A.Alphabet.model g.A.Alphabet.laws (table_of c.args.first.now.draft) c.args.first.now.sound) (sound_from_checked g.A.Alphabet.model g.A.Alphabet.laws (table_of c.args.second.now.draft) c.args.second.now.sound);
     }
 
 pub returns-in_err-total : goal.returns-in_err-total
@@ -35,8 +36,8 @@ unfolding joined
 returns-in_err-total g c =
     let m = g.A.Alphabet.model in
     let law = g.A.Alphabet.laws in
-    let F = table_of c.args.first.now in
-    let H = table_of c.args.second.now in
+    let F = table_of c.args.first.now.draft in
+    let H = table_of c.args.second.now.draft in
     let P = pairs m F H in
     let f = final_at m F H in
     let fs = map f P in
@@ -49,7 +50,7 @@ returns-in_err-total g c =
     let O₁ = c.explore.new.outputs in
     let ex = c.in_ok-counts.ensures.explores in
     let same : c.entries.result.now ≡ P = c.entries.ensures ∙ ex.0 in
-    let joins : Joins m F H = joins m law F H c.requires.first c.requires.second in
+    let joins : Joins m F H = joins m law F H (sound_from_checked g.A.Alphabet.model g.A.Alphabet.laws (table_of c.args.first.now.draft) c.args.first.now.sound) (sound_from_checked g.A.Alphabet.model g.A.Alphabet.laws (table_of c.args.second.now.draft) c.args.second.now.sound) in
     let over = subst (λ ps. Room m d.outputs (map f ps) O₁ → ⊥) same c.in_err-total.ensures in
     let r = err_from_is_err_and c.from_residual-in_err-total.result c.from_residual-in_err-total.ensures.1 in
     record { fills = rw r.1 (λ fit. over (fits_finals m fs ls top R O d R₁ O₁ ex.2 fit)); composes = joins }
@@ -59,8 +60,8 @@ unfolding joined
 returns g c =
     let m = g.A.Alphabet.model in
     let law = g.A.Alphabet.laws in
-    let F = table_of c.args.first.now in
-    let H = table_of c.args.second.now in
+    let F = table_of c.args.first.now.draft in
+    let H = table_of c.args.second.now.draft in
     let P = pairs m F H in
     let f = final_at m F H in
     let fs = map f P in
@@ -73,7 +74,7 @@ returns g c =
     let O₁ = c.explore.new.outputs in
     let ex = c.in_ok-counts.ensures.explores in
     let same : c.entries.result.now ≡ P = c.entries.ensures ∙ ex.0 in
-    let joins : Joins m F H = joins m law F H c.requires.first c.requires.second in
+    let joins : Joins m F H = joins m law F H (sound_from_checked g.A.Alphabet.model g.A.Alphabet.laws (table_of c.args.first.now.draft) c.args.first.now.sound) (sound_from_checked g.A.Alphabet.model g.A.Alphabet.laws (table_of c.args.second.now.draft) c.args.second.now.sound) in
     let n = c.made.result in
     let total = c.in_ok-total.total in
     let S = c.args.states.now in

@@ -2,6 +2,7 @@ use Rattle.std.proofs.Common.{◌≡◌, ℕ, ◌+◌, ◌-◌, ◌<◌, ◌≤�
 use borrow.Rule.Slice.PartMut.{put_mid, same_len_mid}
 use Rattle.machine.specs.Walk.{written}
 use Rattle.filter.specs.Outcomes.{put}
+use Rattle.std.specs.Result.{result_ok}
 use Rattle.std.proofs.lemmas.List.{take_all}
 use Rattle.alphabet.specs.Model.{SoundTerm}
 use Rattle.machine.specs.Machine.{Machine, run}
@@ -11,6 +12,7 @@ use Rattle.table.proofs.Turns.{all_read}
 use Rattle.filter.specs.Machines.{values_of, machine_of}
 use Rattle.join_finals.proofs.Short.{Short, step_short}
 use Rattle.join_finals.proofs.Steps.{Stepped, walk_steps, walk_stuck, put_mid_lem, values_upto, run_stuck}
+use Rattle.table.proofs.Soundness.{sound_from_checked}
 use Rattle.join_finals.proofs.run_constants.Goals as goal
 
 -- what a step wrote is short
@@ -39,38 +41,39 @@ loop-term-preserved-in_default g c =
     let m = g.A.Alphabet.model in
     let I = c.loop-term.invariant in
     let e = values_upto m c.args.terms.now c.loop-term.term-index c.term-item.result c.loop-term-test.true c.term-item.is None (sym c.value.ensures ∙ c.in_default.is) in
-    (ap (λ u. run (machine_of m (table_of c.args.second.now)) u c.args.start) (e ∙ append-nil _) ∙ I.0, omega (arith, I.1), I.2)
+    (ap (λ u. run (machine_of m (table_of c.args.second.now.draft)) u c.args.start) (e ∙ append-nil _) ∙ I.0, omega (arith, I.1), I.2)
 
-pub returns-in_default-walk : goal.returns-in_default-walk
-returns-in_default-walk g c =
+pub returns-in_err-next : goal.returns-in_err-next
+returns-in_err-next g c =
     let m = g.A.Alphabet.model in
-    let M = machine_of m (table_of c.args.second.now) in
+    let M = machine_of m (table_of c.args.second.now.draft) in
     record {
-      ran = run_stuck m c.args.terms.now c.loop-term.term-index c.term-item.result c.loop-term-test.true c.term-item.is M c.args.start c.loop-term.state (take c.loop-term.count c.loop-term.out) c.in-Some.symbol
-          (sym c.value.ensures ∙ c.in-Some.is) c.loop-term.invariant.0 (walk_stuck M c.loop-term.state c.in-Some.symbol c.in_default-walk.field-0 c.in_default-walk.ensures.answer);
+      ran = rw c.from_residual.ensures
+          (run_stuck m c.args.terms.now c.loop-term.term-index c.term-item.result c.loop-term-test.true c.term-item.is M c.args.start c.loop-term.state (take c.loop-term.count c.loop-term.out) c.in-Some.symbol
+          (sym c.value.ensures ∙ c.in-Some.is) c.loop-term.invariant.0 (walk_stuck M c.loop-term.state c.in-Some.symbol (sym c.in_err-next.was ∙ c.ok.ensures.value ∙ ap result_ok c.walk.ensures.answer)));
     }
 
 pub overflow_add-count : goal.overflow_add-count
 overflow_add-count g c =
     let m = g.A.Alphabet.model in
     let I = c.loop-term.invariant in
-    let M = machine_of m (table_of c.args.second.now) in
-    let few = short_of M c.loop-term.state c.in-Some.symbol c.in-Ok.next c.in-Ok.written (step_short m (table_of c.args.second.now) c.requires.second c.loop-term.state c.in-Some.symbol)
-    (walk_steps M c.loop-term.state c.in-Some.symbol c.in-Ok.next c.in-Ok.written c.in-Ok.ensures.answer) in
-    let low : c.loop-term.count + c.in-Ok.written < 4096 = omega (arith, I.1, c.requires.few, c.loop-term-test.true) in
+    let M = machine_of m (table_of c.args.second.now.draft) in
+    let few = short_of M c.loop-term.state c.in-Some.symbol c.in_ok-next.next c.in_ok-next.written (step_short m (table_of c.args.second.now.draft) (sound_from_checked g.A.Alphabet.model g.A.Alphabet.laws (table_of c.args.second.now.draft) c.args.second.now.sound) c.loop-term.state c.in-Some.symbol)
+    (walk_steps M c.loop-term.state c.in-Some.symbol c.in_ok-next.next c.in_ok-next.written (sym c.in_ok-next.was ∙ c.ok.ensures.value ∙ ap result_ok c.walk.ensures.answer)) in
+    let low : c.loop-term.count + c.in_ok-next.written < 4096 = omega (arith, I.1, c.requires.few, c.loop-term-test.true) in
     search rules
 
 pub loop-term-preserved : goal.loop-term-preserved
 loop-term-preserved g c =
     let m = g.A.Alphabet.model in
     let I = c.loop-term.invariant in
-    let M = machine_of m (table_of c.args.second.now) in
+    let M = machine_of m (table_of c.args.second.now.draft) in
     let s = c.in-Some.symbol in
-    let stepped = walk_steps M c.loop-term.state s c.in-Ok.next c.in-Ok.written c.in-Ok.ensures.answer in
-    let few = short_of M c.loop-term.state s c.in-Ok.next c.in-Ok.written (step_short m (table_of c.args.second.now) c.requires.second c.loop-term.state s) stepped in
-    let room : c.loop-term.count + c.in-Ok.written ≤ length c.loop-term.out = omega (arith, I.1, I.2, c.requires.few, c.requires.room, c.loop-term-test.true) in
+    let stepped = walk_steps M c.loop-term.state s c.in_ok-next.next c.in_ok-next.written (sym c.in_ok-next.was ∙ c.ok.ensures.value ∙ ap result_ok c.walk.ensures.answer) in
+    let few = short_of M c.loop-term.state s c.in_ok-next.next c.in_ok-next.written (step_short m (table_of c.args.second.now.draft) (sound_from_checked g.A.Alphabet.model g.A.Alphabet.laws (table_of c.args.second.now.draft) c.args.second.now.sound) c.loop-term.state s) stepped in
+    let room : c.loop-term.count + c.in_ok-next.written ≤ length c.loop-term.out = omega (arith, I.1, I.2, c.requires.few, c.requires.room, c.loop-term-test.true) in
     let e = values_upto m c.args.terms.now c.loop-term.term-index c.term-item.result c.loop-term-test.true c.term-item.is (Some s) (sym c.value.ensures ∙ c.in-Some.is) in (
-      ran_on M c.args.start c.loop-term.state s c.in-Ok.next c.in-Ok.written c.loop-term.count (values_of m (take c.loop-term.term-index c.args.terms.now) 0) _ c.loop-term.out c.walk.new.out e I.0 room c.walk.ensures.output stepped,
+      ran_on M c.args.start c.loop-term.state s c.in_ok-next.next c.in_ok-next.written c.loop-term.count (values_of m (take c.loop-term.term-index c.args.terms.now) 0) _ c.loop-term.out c.walk.new.out e I.0 room c.walk.ensures.output stepped,
       omega (arith, I.1),
       same_len_mid c.loop-term.count (length c.loop-term.out - c.loop-term.count) c.loop-term.out c.walk.new.out c.walk.auto.out ∙ I.2,
     )
@@ -79,4 +82,4 @@ pub returns : goal.returns
 returns g c =
     let m = g.A.Alphabet.model in
     let I = c.loop-term.invariant in
-    record { ran = (ap (λ l. run (machine_of m (table_of c.args.second.now)) (values_of m l 0) c.args.start) (sym (take_all c.loop-term.term-index c.args.terms.now c.loop-term-test.false)) ∙ I.0, omega (arith, I.1, c.requires.few)) }
+    record { ran = (ap (λ l. run (machine_of m (table_of c.args.second.now.draft)) (values_of m l 0) c.args.start) (sym (take_all c.loop-term.term-index c.args.terms.now c.loop-term-test.false)) ∙ I.0, omega (arith, I.1, c.requires.few)) }

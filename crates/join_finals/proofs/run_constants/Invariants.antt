@@ -7,5 +7,5 @@ use Rattle.join_finals.proofs.run_constants.Given as goal
 abbrev pub invariant-loop-term : goal.invariant-loop-term
 invariant-loop-term g l =
     let m = g.A.Alphabet.model in
-    (run (machine_of m (table_of l.second)) (values_of m (take l.term-index l.terms) 0) l.start ≡ Some (l.state, take l.count l.out))
+    (run (machine_of m (table_of l.second.draft)) (values_of m (take l.term-index l.terms) 0) l.start ≡ Some (l.state, take l.count l.out))
     × (l.count ≤ 32 * l.term-index) × (length l.out ≡ length l.initial.out)

@@ -3,7 +3,7 @@ use Rattle.queue.specs.Held.{entries, room}
 use Rattle.join_pairs.proofs.Meetings.{Partly}
 use Rattle.join_pairs.proofs.number_targets.Given as goal
 
-abbrev pub invariant-loop-i : goal.invariant-loop-i
-invariant-loop-i g l =
-    Partly l.first (entries l.initial.queue) l.initial.rules l.i (entries l.queue) l.rules
+abbrev pub invariant-loop-rule : goal.invariant-loop-rule
+invariant-loop-rule g l =
+    Partly l.first (entries l.initial.queue) l.initial.rules l.rule-index (entries l.queue) l.rules
     × (room l.queue ≡ room l.initial.queue) × (length (entries l.queue) ≤ room l.queue) × (l.queue.taken ≡ l.initial.queue.taken)

@@ -7,16 +7,18 @@ use Rattle.std.proofs.lemmas.Bool.Decides.{nat_tests}
 use Rattle.alphabet.specs.Model.{SoundTerm}
 use Rattle.join_ways.proofs.Adds.{rules_long, outputs_long}
 use Rattle.join_rules.proofs.Turns.{walking_start, walking_end, walking_skip, walking_on, walking_refused, ends_within, terms_sound}
+use Rattle.table.proofs.Soundness.{sound_from_checked}
+use Rattle.table.specs.Table.{table_of}
 use Rattle.join_rules.proofs.add_pair.Goals as goal
 use Rattle.join_rules.proofs.add_pair.Goals.{then-rule-pair+in_ok-so_far, else-rule-pair}
 
 pub loop-rule-init : goal.loop-rule-init
-loop-rule-init g c = (walking_start _ _ _ _ _ _ _ _ _ _ c.requires.first c.final_total-start.result c.final_total-start.ensures.total c.requires.fits c.requires.rules c.requires.outputs, refl, refl)
+loop-rule-init g c = (walking_start _ _ _ _ _ _ _ _ _ _ (sound_from_checked g.A.Alphabet.model g.A.Alphabet.laws (table_of c.args.first.now.draft) c.args.first.now.sound) c.final_total-start.result c.final_total-start.ensures.total c.requires.fits c.requires.rules c.requires.outputs, refl, refl)
 
 pub overflow_add-start : goal.overflow_add-start
 overflow_add-start g c =
     let e = ends_within _ _ _ _ _ _ _ _ _ _ _ _ _ _ _ _ c.loop-rule.invariant.0 c.rule-item.result c.loop-rule-test.true c.rule-item.is in
-    let few = c.requires.first.few_outputs in
+    let few = (sound_from_checked g.A.Alphabet.model g.A.Alphabet.laws (table_of c.args.first.now.draft) c.args.first.now.sound).few_outputs in
     search rules
 
 pub offset_bounds-first-from : goal.offset_bounds-first-from
@@ -27,26 +29,32 @@ slice_bounds-course-end g c =
     let e = ends_within _ _ _ _ _ _ _ _ _ _ _ _ _ _ _ _ c.loop-rule.invariant.0 c.rule-item.result c.loop-rule-test.true c.rule-item.is in
     search rules
 
-pub add_line-requires : goal.add_line-requires
-add_line-requires g c =
+pub invariant_of-course : goal.invariant_of-course
+invariant_of-course g c =
     let m = g.A.Alphabet.model in
     let I = c.loop-rule.invariant in
     let r = c.rule-item.result in
     let start = c.loop-rule.start in
-    let O = c.args.first.now.outputs.now in
-    let nth = slice_get_read c.args.first.now.rules.now _ c.loop-rule.rule-index r refl c.loop-rule-test.true c.rule-item.is in
     let size : (start + r.outputs) - start ≡ r.outputs = omega arith in
+    record {
+      starts = c.final_total-begins.ensures.total;
+      sound = subst (λ n. AllByRecursion (SoundTerm m) (take n (drop start c.args.first.now.draft.outputs.now))) (sym size) (terms_sound _ _ _ _ _ _ _ _ _ _ _ _ _ _ _ _ I.0 r c.loop-rule-test.true c.rule-item.is);
+    }
+
+pub add_line-requires : goal.add_line-requires
+add_line-requires g c =
+    let I = c.loop-rule.invariant in
+    let r = c.rule-item.result in
+    let nth = slice_get_read c.args.first.now.draft.rules.now _ c.loop-rule.rule-index r refl c.loop-rule-test.true c.rule-item.is in
     let took = I.0.took in
     let rl = rules_long _ _ _ _ _ _ _ took.2 in
     let ol = outputs_long _ _ _ _ _ _ _ took.2 in
+    let sound = sound_from_checked g.A.Alphabet.model g.A.Alphabet.laws (table_of c.args.first.now.draft) c.args.first.now.sound in
     record {
-      second = c.requires.second;
-      first = c.final_total-begins.ensures.total;
-      terms = subst (λ n. AllByRecursion (SoundTerm m) (take n (drop start O))) (sym size) (terms_sound _ _ _ _ _ _ _ _ _ _ _ _ _ _ _ _ I.0 r c.loop-rule-test.true c.rule-item.is);
-      guard = c.requires.first.guard c.loop-rule.rule-index r nth;
+      guard = sound.guard c.loop-rule.rule-index r nth;
       fits = omega (arith, took.1, I.1);
       few = omega (arith, c.requires.few, I.1);
-      path = simp length-take (omega (arith, c.requires.first.short_output c.loop-rule.rule-index r nth, c.requires.path));
+      path = simp length-take (omega (arith, sound.short_output c.loop-rule.rule-index r nth, c.requires.path));
       rules = omega (arith, took.2.rule_count, took.2.fits.rules_fit);
       outputs = omega (arith, took.2.output_count, took.2.fits.outputs_fit);
     }
@@ -56,7 +64,7 @@ returns-in_err-so_far g c =
     let I = c.loop-rule.invariant in
     let r = c.rule-item.result in
     let start = c.loop-rule.start in
-    let O = c.args.first.now.outputs.now in
+    let O = c.args.first.now.draft.outputs.now in
     let size : (start + r.outputs) - start ≡ r.outputs = omega arith in
     let here : eqb r.state c.args.pair.0 ≡ true = grind (arith, nat_tests) in
     let over = c.in_err-so_far.ensures.takes in
@@ -74,7 +82,7 @@ loop-rule-preserved g c = elim c.if-rule-pair.branch [
       let I = c.loop-rule.invariant in
       let r = c.rule-item.result in
       let start = c.loop-rule.start in
-      let O = c.args.first.now.outputs.now in
+      let O = c.args.first.now.draft.outputs.now in
       let size : (start + r.outputs) - start ≡ r.outputs = omega arith in
       let here : eqb r.state c.args.pair.0 ≡ true = grind (arith, nat_tests) in
       let t = w.in_ok-so_far.ensures.takes in

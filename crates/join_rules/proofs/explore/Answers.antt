@@ -9,12 +9,13 @@ use Rattle.join_ways.proofs.Adds.{rules_long, outputs_long}
 use Rattle.join_rules.specs.PairRules.{targets}
 use Rattle.join_rules.proofs.Walkings.{Took}
 use Rattle.join_rules.proofs.Explorings.{Exploring, exploring_start, exploring_end, exploring_next, exploring_refused}
+use Rattle.table.proofs.Soundness.{sound_from_checked}
 use Rattle.join_rules.proofs.explore.Goals as goal
 
 pub loop-number-init : goal.loop-number-init
 loop-number-init g c =
     let m = g.A.Alphabet.model in
-    let start = exploring_start m g.A.Alphabet.laws (table_of c.args.first.now) (table_of c.args.second.now) c.requires.first c.requires.second (room c.args.queue.now) c.args.rules.now c.args.outputs.now c.requires.fits in
+    let start = exploring_start m g.A.Alphabet.laws (table_of c.args.first.now.draft) (table_of c.args.second.now.draft) (sound_from_checked g.A.Alphabet.model g.A.Alphabet.laws (table_of c.args.first.now.draft) c.args.first.now.sound) (sound_from_checked g.A.Alphabet.model g.A.Alphabet.laws (table_of c.args.second.now.draft) c.args.second.now.sound) (room c.args.queue.now) c.args.rules.now c.args.outputs.now c.requires.fits in
     (rw (c.requires.start, c.requires.waits) start, refl)
 
 pub overflow_cast-number : goal.overflow_cast-number
@@ -30,8 +31,6 @@ add_pair-requires g c =
     let rl = rules_long _ _ _ _ _ _ _ I.0.added in
     let ol = outputs_long _ _ _ _ _ _ _ I.0.added in
     record {
-      first = c.requires.first;
-      second = c.requires.second;
       fits = omega (arith, ap length e.entries, e.room, I.0.low, I.1);
       few = omega (arith, e.room, I.1, c.requires.few);
       path = omega (arith, c.requires.path);
@@ -42,8 +41,8 @@ add_pair-requires g c =
 pub returns-in_err-counts : goal.returns-in_err-counts
 returns-in_err-counts g c =
     let m = g.A.Alphabet.model in
-    let F = table_of c.args.first.now in
-    let H = table_of c.args.second.now in
+    let F = table_of c.args.first.now.draft in
+    let H = table_of c.args.second.now.draft in
     let I = c.loop-number.invariant in
     let k = c.loop-number.queue.taken in
     let P = entries c.loop-number.queue in
@@ -57,7 +56,7 @@ returns-in_err-counts g c =
     let over₁ = subst (λ Q. length (met_all Q (targets ws)) ≤ room c.next.new.self → Fits c.loop-number.counts (map (numbered (met_all Q (targets ws)) c.in-Some.number) ws) c.loop-number.rules c.loop-number.outputs → ⊥) e.entries over in
     let over₂ = subst (λ i. length (met_all P (targets ws)) ≤ room c.next.new.self → Fits c.loop-number.counts (map (numbered (met_all P (targets ws)) i) ws) c.loop-number.rules c.loop-number.outputs → ⊥) n.0 over₁ in
     record {
-      explores = rw r.1 (exploring_refused m g.A.Alphabet.laws F H c.requires.first c.requires.second (room c.args.queue.now) c.args.rules.now c.args.outputs.now k P c.loop-number.counts c.loop-number.rules c.loop-number.outputs I.0 c.in-Some.pair h is
+      explores = rw r.1 (exploring_refused m g.A.Alphabet.laws F H (sound_from_checked g.A.Alphabet.model g.A.Alphabet.laws (table_of c.args.first.now.draft) c.args.first.now.sound) (sound_from_checked g.A.Alphabet.model g.A.Alphabet.laws (table_of c.args.second.now.draft) c.args.second.now.sound) (room c.args.queue.now) c.args.rules.now c.args.outputs.now k P c.loop-number.counts c.loop-number.rules c.loop-number.outputs I.0 c.in-Some.pair h is
           (λ low. over₂ (omega (arith, low, e.room, I.1))));
       room = c.add_pair.ensures.room ∙ e.room ∙ I.1;
     }
@@ -65,8 +64,8 @@ returns-in_err-counts g c =
 pub loop-number-preserved : goal.loop-number-preserved
 loop-number-preserved g c =
     let m = g.A.Alphabet.model in
-    let F = table_of c.args.first.now in
-    let H = table_of c.args.second.now in
+    let F = table_of c.args.first.now.draft in
+    let H = table_of c.args.second.now.draft in
     let I = c.loop-number.invariant in
     let k = c.loop-number.queue.taken in
     let P = entries c.loop-number.queue in
@@ -82,7 +81,7 @@ loop-number-preserved g c =
     let O₂ = c.add_pair.new.outputs in
     let took : Took c.in-Some.number ws P (room c.args.queue.now) c.loop-number.counts d c.loop-number.rules c.loop-number.outputs P₂ R₂ O₂ =
     (t.0 ∙ ap (λ l. met_all l (targets ws)) e.entries, omega (arith, t.1, e.room, I.1), t.2) in
-    let next = exploring_next m g.A.Alphabet.laws F H c.requires.first c.requires.second (room c.args.queue.now) c.args.rules.now c.args.outputs.now k P c.loop-number.counts c.loop-number.rules c.loop-number.outputs I.0 c.in-Some.pair h is d P₂ R₂ O₂
+    let next = exploring_next m g.A.Alphabet.laws F H (sound_from_checked g.A.Alphabet.model g.A.Alphabet.laws (table_of c.args.first.now.draft) c.args.first.now.sound) (sound_from_checked g.A.Alphabet.model g.A.Alphabet.laws (table_of c.args.second.now.draft) c.args.second.now.sound) (room c.args.queue.now) c.args.rules.now c.args.outputs.now k P c.loop-number.counts c.loop-number.rules c.loop-number.outputs I.0 c.in-Some.pair h is d P₂ R₂ O₂
     (subst (λ i. Took i ws P (room c.args.queue.now) c.loop-number.counts d c.loop-number.rules c.loop-number.outputs P₂ R₂ O₂) n.0 took) in (
       subst (λ i. Exploring m F H (room c.args.queue.now) c.args.rules.now c.args.outputs.now i P₂ d R₂ O₂) (sym (c.add_pair.ensures.taken ∙ e.taken)) next,
       c.add_pair.ensures.room ∙ e.room ∙ I.1,
@@ -91,11 +90,11 @@ loop-number-preserved g c =
 pub returns : goal.returns
 returns g c =
     let m = g.A.Alphabet.model in
-    let F = table_of c.args.first.now in
-    let H = table_of c.args.second.now in
+    let F = table_of c.args.first.now.draft in
+    let H = table_of c.args.second.now.draft in
     let I = c.loop-number.invariant in
     let e = c.in_default.ensures in
-    let done = exploring_end m g.A.Alphabet.laws F H c.requires.first c.requires.second (room c.args.queue.now) c.args.rules.now c.args.outputs.now c.loop-number.queue.taken (entries c.loop-number.queue) c.loop-number.counts c.loop-number.rules c.loop-number.outputs I.0 (omega (arith, e.answer)) in
+    let done = exploring_end m g.A.Alphabet.laws F H (sound_from_checked g.A.Alphabet.model g.A.Alphabet.laws (table_of c.args.first.now.draft) c.args.first.now.sound) (sound_from_checked g.A.Alphabet.model g.A.Alphabet.laws (table_of c.args.second.now.draft) c.args.second.now.sound) (room c.args.queue.now) c.args.rules.now c.args.outputs.now c.loop-number.queue.taken (entries c.loop-number.queue) c.loop-number.counts c.loop-number.rules c.loop-number.outputs I.0 (omega (arith, e.answer)) in
     record {
       explores = (e.entries ∙ done.0, omega (arith, ap length e.entries, I.0.low), done.1);
       room = e.room ∙ I.1;

@@ -6,7 +6,7 @@ use Rattle.join_rules.proofs.explore.Given as goal
 
 abbrev pub invariant-loop-number : goal.invariant-loop-number
 invariant-loop-number g l =
-    Exploring g.A.Alphabet.model (table_of l.first) (table_of l.second) (room l.initial.queue) l.initial.rules l.initial.outputs
+    Exploring g.A.Alphabet.model (table_of l.first.draft) (table_of l.second.draft) (room l.initial.queue) l.initial.rules l.initial.outputs
     l.queue.taken (entries l.queue) l.counts l.rules l.outputs
     × (room l.queue ≡ room l.initial.queue)
 

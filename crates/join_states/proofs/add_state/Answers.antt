@@ -7,6 +7,7 @@ use Rattle.join_laws.proofs.Tables.{Symbols}
 use Rattle.join_laws.proofs.Symbols.{finals_inside}
 use Rattle.join_ways.specs.Written.{spliced}
 use Rattle.join_states.proofs.Endings.{ended_none, ended_long, ended_over, ended_some}
+use Rattle.table.proofs.Soundness.{sound_from_checked}
 use Rattle.join_states.proofs.add_state.Goals as goal
 
 pub returns-in_default : goal.returns-in_default
@@ -23,7 +24,7 @@ write_constants-requires g c =
     let m = g.A.Alphabet.model in
     let e = c.in-Some.ensures in
     let zero : c.in-Some.count - 0 ≡ c.in-Some.count = omega arith in
-    let inside = subst (Symbols m) e.0 (finals_inside m g.A.Alphabet.laws (table_of c.args.first.now) (table_of c.args.second.now) c.requires.second c.args.pair) in
+    let inside = subst (Symbols m) e.0 (finals_inside m g.A.Alphabet.laws (table_of c.args.first.now.draft) (table_of c.args.second.now.draft) (sound_from_checked g.A.Alphabet.model g.A.Alphabet.laws (table_of c.args.second.now.draft) c.args.second.now.sound) c.args.pair) in
     record { inside = subst (λ n. AllByRecursion (λ s. s < m.size) (take n c.final_of.new.out)) (sym zero) inside; at = c.requires.at }
 
 pub returns-in_err-end : goal.returns-in_err-end

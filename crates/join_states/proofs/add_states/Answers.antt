@@ -12,7 +12,7 @@ loop-number-init g c = ending_none _ _ _ _ _ c.requires.at
 pub returns-in_err-state : goal.returns-in_err-state
 returns-in_err-state g c =
     let m = g.A.Alphabet.model in
-    let f = final_at m (table_of c.args.first.now) (table_of c.args.second.now) in
+    let f = final_at m (table_of c.args.first.now.draft) (table_of c.args.second.now.draft) in
     let ps = c.args.pairs.now in
     let i = c.loop-number.number in
     let x = get_or ps i (0, 0) in
@@ -24,7 +24,7 @@ returns-in_err-state g c =
 pub loop-number-preserved : goal.loop-number-preserved
 loop-number-preserved g c =
     let m = g.A.Alphabet.model in
-    let f = final_at m (table_of c.args.first.now) (table_of c.args.second.now) in
+    let f = final_at m (table_of c.args.first.now.draft) (table_of c.args.second.now.draft) in
     let ps = c.args.pairs.now in
     let i = c.loop-number.number in
     let x = get_or ps i (0, 0) in
@@ -36,5 +36,5 @@ loop-number-preserved g c =
 
 pub returns : goal.returns
 returns g c =
-    let f = final_at g.A.Alphabet.model (table_of c.args.first.now) (table_of c.args.second.now) in
+    let f = final_at g.A.Alphabet.model (table_of c.args.first.now.draft) (table_of c.args.second.now.draft) in
     ending_done _ _ _ _ _ _ _ _ _ c.loop-number.invariant (omega (arith, length-map c.args.pairs.now f, c.loop-number-test.false))

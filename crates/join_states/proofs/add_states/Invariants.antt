@@ -7,4 +7,4 @@ use Rattle.join_states.proofs.add_states.Given as goal
 abbrev pub invariant-loop-number : goal.invariant-loop-number
 invariant-loop-number g l =
     let m = g.A.Alphabet.model in
-    Ending m l.at (map (final_at m (table_of l.first) (table_of l.second)) l.pairs) l.initial.states l.initial.outputs l.number l.place l.states l.outputs
+    Ending m l.at (map (final_at m (table_of l.first.draft) (table_of l.second.draft)) l.pairs) l.initial.states l.initial.outputs l.number l.place l.states l.outputs

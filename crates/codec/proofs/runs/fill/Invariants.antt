@@ -1,5 +1,5 @@
 use Rattle.std.proofs.Common.{◌≡◌, ◌*◌, drop}
-use Rattle.shelf_holdings.specs.Append.{over}
+use Rattle.holdings.specs.Append.{over}
 use Rattle.codec_laws.specs.Lists.{records}
 use Rattle.codec.proofs.runs.fill.Given as goal
 

@@ -1,5 +1,5 @@
 use Rattle.std.proofs.Common.{◌≡◌, ◌+◌, ◌-◌, ◌*◌, ◌≤◌, length, sym, ap, ◌∙◌, arith, rules}
-use Rattle.shelf_holdings.specs.Append.{over}
+use Rattle.holdings.specs.Append.{over}
 use Rattle.std.proofs.lemmas.List.{take_all}
 use Rattle.codec_laws.specs.Lists.{image_all}
 use Rattle.codec_laws.proofs.Overs.{over_none}

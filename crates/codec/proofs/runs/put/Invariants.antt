@@ -1,5 +1,5 @@
 use Rattle.std.proofs.Common.{◌≡◌, ◌+◌, ◌*◌, take}
-use Rattle.shelf_holdings.specs.Append.{over}
+use Rattle.holdings.specs.Append.{over}
 use Rattle.codec_laws.specs.Lists.{image_all}
 use Rattle.codec.proofs.runs.put.Given as goal
 

@@ -16,9 +16,9 @@ use Rattle.equivalence.proofs.search.search.Goals as goal
 pub step_agrees-requires : goal.step_agrees-requires
 step_agrees-requires g c =
     let m = g.A.Alphabet.model in
-    let F = table_of c.args.left.now in
-    let H = table_of c.args.right.now in
-    let f = c.args.frame in
+    let F = table_of c.args.pair.now.left.now.draft in
+    let H = table_of c.args.pair.now.right.now.draft in
+    let f = c.args.pair.now.frame in
     let L = c.entries.result.now in
     let C = c.loop-number.cells in
     let k = c.in-Some.number in
@@ -28,21 +28,19 @@ step_agrees-requires g c =
     let h = subst (λ (l : List Step). k < length l) (sym same) c.in-Some.ensures.answer.1 in
     let is = c.in-Some.ensures.answer.2 blank ∙ ap (λ (l : List Step). at l k) (sym same) in
     record {
-      left = c.requires.left;
-      right = c.requires.right;
       tracks = R.kept.tracks;
-      attached = subst (λ (x : Step). Attached m F H L x) (sym is) (search_attached m F H f c.requires.framed L C k R h);
-      rooml = subst (λ (x : Step). RoomFor m F x.left f.room) (sym is) (search_left m F H f c.requires.framed L C k R h);
-      roomr = subst (λ (x : Step). RoomFor m H x.right f.room) (sym is) (search_right m F H f c.requires.framed L C k R h);
+      attached = subst (λ (x : Step). Attached m F H L x) (sym is) (search_attached m F H f c.args.pair.now.framed L C k R h);
+      rooml = subst (λ (x : Step). RoomFor m F x.left f.room) (sym is) (search_left m F H f c.args.pair.now.framed L C k R h);
+      roomr = subst (λ (x : Step). RoomFor m H x.right f.room) (sym is) (search_right m F H f c.args.pair.now.framed L C k R h);
       room = omega (arith, c.requires.room, c.loop-number.auto.outputs);
     }
 
 pub returns-then-not-step_agrees : goal.returns-then-not-step_agrees
 returns-then-not-step_agrees g c =
     let m = g.A.Alphabet.model in
-    let F = table_of c.args.left.now in
-    let H = table_of c.args.right.now in
-    let f = c.args.frame in
+    let F = table_of c.args.pair.now.left.now.draft in
+    let H = table_of c.args.pair.now.right.now.draft in
+    let f = c.args.pair.now.frame in
     let L = c.entries.result.now in
     let C = c.loop-number.cells in
     let k = c.in-Some.number in
@@ -53,16 +51,16 @@ returns-then-not-step_agrees g c =
     let is = c.in-Some.ensures.answer.2 blank ∙ ap (λ (l : List Step). at l k) (sym same) in
     let differ : Agrees m F H L (at L k) → ⊥ = λ e. both_ways c.step_agrees.result c.if-not-step_agrees.true (c.step_agrees.ensures.1 (subst (λ (x : Step). Agrees m F H L x) (sym is) e)) in
     record {
-      told = subst (λ (l : List Step). Told (machine_of m F) (machine_of m H) (Some (text l k))) c.entries.ensures (search_found m F H f c.requires.framed L C k R h differ);
-      early = subst (λ (l : List Step). Early (steps_needed_lem f.left f.right) l (Some k)) c.entries.ensures (search_early m F H f c.requires.framed L C k R h);
+      told = subst (λ (l : List Step). Told (machine_of m F) (machine_of m H) (Some (text l k))) c.entries.ensures (search_found m F H f c.args.pair.now.framed L C k R h differ);
+      early = subst (λ (l : List Step). Early (steps_needed_lem f.left f.right) l (Some k)) c.entries.ensures (search_early m F H f c.args.pair.now.framed L C k R h);
     }
 
 pub expand-requires : goal.expand-requires
 expand-requires g c =
     let m = g.A.Alphabet.model in
-    let F = table_of c.args.left.now in
-    let H = table_of c.args.right.now in
-    let f = c.args.frame in
+    let F = table_of c.args.pair.now.left.now.draft in
+    let H = table_of c.args.pair.now.right.now.draft in
+    let f = c.args.pair.now.frame in
     let L = c.entries.result.now in
     let C = c.loop-number.cells in
     let k = c.in-Some.number in
@@ -73,18 +71,15 @@ expand-requires g c =
     let is = c.in-Some.ensures.answer.2 blank ∙ ap (λ (l : List Step). at l k) (sym same) in
     let alike = subst (λ (x : Step). Agrees m F H L x) is (c.step_agrees.ensures.0 c.if-not-step_agrees.false) in
     record {
-      left = c.requires.left;
-      right = c.requires.right;
-      framed = c.requires.framed;
       slots = omega (arith, c.requires.slots, c.loop-number.invariant.1, c.in-Some.ensures.room);
       cells = omega (arith, c.requires.cells, c.loop-number.auto.cells);
       room = omega (arith, c.requires.room, c.loop-number.auto.outputs, c.step_agrees.auto.outputs);
       step = is ∙ ap (λ (l : List Step). at l k) c.entries.ensures;
-      going = subst (λ (l : List Step). Going m F H f.left f.right f.width l C k 0) c.entries.ensures (search_agreed m F H f c.requires.framed L C k R h alike);
+      going = subst (λ (l : List Step). Going m F H f.left f.right f.width l C k 0) c.entries.ensures (search_agreed m F H f c.args.pair.now.framed L C k R h alike);
     }
 
 pub returns : goal.returns
 returns g c = record {
-  told = search_done g.A.Alphabet.model (table_of c.args.left.now) (table_of c.args.right.now) c.args.frame c.requires.framed (entries c.loop-number.queue) c.loop-number.cells c.loop-number.queue.taken c.loop-number.invariant.0 (omega (arith, c.in_default.ensures.answer));
+  told = search_done g.A.Alphabet.model (table_of c.args.pair.now.left.now.draft) (table_of c.args.pair.now.right.now.draft) c.args.pair.now.frame c.args.pair.now.framed (entries c.loop-number.queue) c.loop-number.cells c.loop-number.queue.taken c.loop-number.invariant.0 (omega (arith, c.in_default.ensures.answer));
   early = tt;
 }

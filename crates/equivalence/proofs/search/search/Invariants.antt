@@ -6,7 +6,7 @@ use Rattle.equivalence.proofs.search.search.Given as goal
 
 abbrev pub invariant-loop-number : goal.invariant-loop-number
 invariant-loop-number g l =
-    Turned g.A.Alphabet.model (table_of l.left) (table_of l.right) l.frame.left l.frame.right l.frame.width (entries l.queue) l.cells l.queue.taken
+    Turned g.A.Alphabet.model (table_of l.pair.left.now.draft) (table_of l.pair.right.now.draft) l.pair.frame.left l.pair.frame.right l.pair.frame.width (entries l.queue) l.cells l.queue.taken
     × (room l.queue ≡ room l.initial.queue)
 
 abbrev pub decreases-loop-number : goal.decreases-loop-number

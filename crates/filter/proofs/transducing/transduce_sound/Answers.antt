@@ -1,15 +1,14 @@
-use Rattle.std.proofs.Common.{◌+◌, ◌<◌, ◌≤◌, length, Ok, Err, sym, refl, ap, ◌∙◌, arith}
+use Rattle.std.proofs.Common.{◌+◌, ◌≤◌, length, Ok, sym, refl, ap, ◌∙◌, arith}
 use Rattle.table.specs.Table.{table_of}
 use Rattle.filter.specs.declared.outcome.Outcome.TheVariants.{Written}
-use Rattle.filter.specs.declared.outcome.TransduceFault.TheVariants.{ShortOutput}
 use Rattle.filter.specs.Machines.{machine_of}
 use Rattle.filter.specs.Outcomes.{ended, finished, put, output_after}
-use Rattle.filter.proofs.Transduces.{behind_none, behind_some, answer_rejected, answer_short, answer_written, output_written}
+use Rattle.filter.proofs.Transduces.{behind_none, behind_some, answer_rejected, answer_written, output_written}
 use Rattle.filter.proofs.transducing.transduce_sound.Goals as goal
 
 pub returns-in_default : goal.returns-in_default
 returns-in_default g c =
-    let M = machine_of g.A.Alphabet.model (table_of c.args.draft.now) in
+    let M = machine_of g.A.Alphabet.model (table_of c.args.filter.now.draft) in
     let through = sym c.walk.ensures.answer ∙ c.in-Ok.is in
     let none = behind_none c.in-Ok.end.1 (M.final c.in-Ok.end.0) (sym c.finish.ensures.answer ∙ c.in_default.is) in
     record {
@@ -17,21 +16,9 @@ returns-in_default g c =
       output = refl;
     }
 
-pub returns-then-needed-out : goal.returns-then-needed-out
-returns-then-needed-out g c =
-    let M = machine_of g.A.Alphabet.model (table_of c.args.draft.now) in
-    let n = c.in-Ok.end.1 in
-    let through = sym c.walk.ensures.answer ∙ c.in-Ok.is in
-    let some = behind_some n c.in-Some.needed (M.final c.in-Ok.end.0) (sym c.finish.ensures.answer ∙ c.in-Some.is) in
-    let short : length c.args.out.now < n + length some.0 = omega (arith, some.2) in
-    record {
-      answer = ap (λ k. Err (ShortOutput k)) (sym some.2) ∙ sym (answer_short M c.args.text.now c.if-text-gt-MOST_SYMBOLS.false c.in-Ok.end.0 n through some.0 some.1 (length c.args.out.now) short);
-      output = refl;
-    }
-
 pub returns : goal.returns
 returns g c =
-    let M = machine_of g.A.Alphabet.model (table_of c.args.draft.now) in
+    let M = machine_of g.A.Alphabet.model (table_of c.args.filter.now.draft) in
     let text = c.args.text.now in
     let p = c.in-Ok.end.0 in
     let n = c.in-Ok.end.1 in

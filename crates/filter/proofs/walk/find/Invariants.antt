@@ -6,5 +6,5 @@ use Rattle.filter.proofs.walk.find.Given as goal
 abbrev pub invariant-loop-number : goal.invariant-loop-number
 invariant-loop-number g l =
     let m = g.A.Alphabet.model in
-    (length l.draft.outputs.now ≡ l.from + rule_total_of (drop l.number l.draft.rules.now))
-    × (found m l.state l.symbol l.number l.from (drop l.number l.draft.rules.now) ≡ found m l.state l.symbol 0 l.first l.draft.rules.now)
+    (length l.filter.draft.outputs.now ≡ l.from + rule_total_of (drop l.number l.filter.draft.rules.now))
+    × (found m l.state l.symbol l.number l.from (drop l.number l.filter.draft.rules.now) ≡ found m l.state l.symbol 0 l.first l.filter.draft.rules.now)

@@ -1,18 +1,19 @@
-use Rattle.std.proofs.Common.{ℕ, ◌+◌, ◌≤◌, List, length, get_or, Some, sym, ap, ◌∙◌, subst, arith, rules}
+use Rattle.std.proofs.Common.{ℕ, ◌+◌, List, length, get_or, Some, sym, ap, ◌∙◌, subst, arith}
 use Rattle.std.specs.List.{AllByRecursion}
 use Rattle.std.proofs.lemmas.List.{length-take}
 use Rattle.std.proofs.lemmas.Option.{slice_get-get_or}
 use Rattle.table.specs.declared.entries.State.{State}
 use Rattle.table.specs.Table.{table_of}
+use Rattle.table.proofs.Soundness.{sound_from_checked}
 use Rattle.alphabet.specs.Model.{SoundTerm}
 use Rattle.filter.specs.Machines.{values_of}
 use Rattle.filter.specs.Outcomes.{put, behind, finished}
-use Rattle.filter.proofs.Finals.{final_missing, final_rejects, final_accepts, before, part_at, final_within, final_sound}
+use Rattle.filter.proofs.Finals.{final_missing, final_rejects, final_accepts, part_at, final_sound}
 use Rattle.filter.proofs.walk.finish.Goals as goal
 
-pub returns-then-state-draft : goal.returns-then-state-draft
-returns-then-state-draft g c =
-    let e = final_missing g.A.Alphabet.model (table_of c.args.draft.now) c.args.state c.if-state-draft.true in
+pub returns-then-state-filter : goal.returns-then-state-filter
+returns-then-state-filter g c =
+    let e = final_missing g.A.Alphabet.model (table_of c.args.filter.now.draft) c.args.state c.if-state-filter.true in
     record { answer = ap (behind c.args.at) (sym e); output = ap (λ o. finished c.args.at o c.args.out.now) (sym e) }
 
 -- the state's entry, as the code reads it
@@ -21,44 +22,28 @@ entry states q = get_or states q (record { mark = 0; finals = 0 })
 
 pub returns-then-entry-ne1 : goal.returns-then-entry-ne1
 returns-then-entry-ne1 g c =
-    let F = table_of c.args.draft.now in
+    let F = table_of c.args.filter.now.draft in
     let q = c.args.state in
-    let e = final_rejects g.A.Alphabet.model F q (entry F.states q) (slice_get-get_or F.states q _ c.if-state-draft.false) c.if-entry-ne1.true in
+    let e = final_rejects g.A.Alphabet.model F q (entry F.states q) (slice_get-get_or F.states q _ c.if-state-filter.false) c.if-entry-ne1.true in
     record { answer = ap (behind c.args.at) (sym e); output = ap (λ o. finished c.args.at o c.args.out.now) (sym e) }
-
-pub offset_bounds-draft-from : goal.offset_bounds-draft-from
-offset_bounds-draft-from g c =
-    let F = table_of c.args.draft.now in
-    let q = c.args.state in
-    let is = slice_get-get_or F.states q (record { mark = 0; finals = 0 }) c.if-state-draft.false in
-    let m = g.A.Alphabet.model in
-    omega (arith, final_within m F q (entry F.states q) is c.requires.sound, before m F q (entry F.states q) is)
-
-pub slice_bounds-emit-end : goal.slice_bounds-emit-end
-slice_bounds-emit-end g c =
-    let F = table_of c.args.draft.now in
-    let q = c.args.state in
-    let is = slice_get-get_or F.states q (record { mark = 0; finals = 0 }) c.if-state-draft.false in
-    let m = g.A.Alphabet.model in
-    let end : c.final_total-from.result + (entry F.states q).finals ≤ length F.outputs = omega (arith, final_within m F q (entry F.states q) is c.requires.sound, before m F q (entry F.states q) is) in
-    search rules
 
 pub emit-requires : goal.emit-requires
 emit-requires g c =
-    let F = table_of c.args.draft.now in
+    let F = table_of c.args.filter.now.draft in
     let q = c.args.state in
-    let is = slice_get-get_or F.states q (record { mark = 0; finals = 0 }) c.if-state-draft.false in
+    let is = slice_get-get_or F.states q (record { mark = 0; finals = 0 }) c.if-state-filter.false in
     let m = g.A.Alphabet.model in
+    let sound = sound_from_checked g.A.Alphabet.model g.A.Alphabet.laws (table_of c.args.filter.now.draft) c.args.filter.now.sound in
     record {
-      sound = subst (AllByRecursion (SoundTerm m)) (sym (part_at m F q (entry F.states q) is c.final_total-from.result c.final_total-from.ensures.total)) (final_sound m F q (entry F.states q) is c.requires.sound);
-      fits = simp length-take (omega (arith, c.requires.sound.short_final q (entry F.states q) is));
+      sound = subst (AllByRecursion (SoundTerm m)) (sym (part_at m F q (entry F.states q) is c.final_total-from.result c.final_total-from.ensures.total)) (final_sound m F q (entry F.states q) is sound);
+      fits = simp length-take (omega (arith, sound.short_final q (entry F.states q) is));
     }
 
 pub returns : goal.returns
 returns g c =
-    let F = table_of c.args.draft.now in
+    let F = table_of c.args.filter.now.draft in
     let q = c.args.state in
-    let is = slice_get-get_or F.states q (record { mark = 0; finals = 0 }) c.if-state-draft.false in
+    let is = slice_get-get_or F.states q (record { mark = 0; finals = 0 }) c.if-state-filter.false in
     let m = g.A.Alphabet.model in
     let part = part_at m F q (entry F.states q) is c.final_total-from.result c.final_total-from.ensures.total in
     let e = final_accepts m F q (entry F.states q) is c.if-entry-ne1.false in

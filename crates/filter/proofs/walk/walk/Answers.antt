@@ -1,7 +1,7 @@
-use Rattle.std.proofs.Common.{◌≡◌, ◌+◌, ◌-◌, ◌≤◌, [], ◌++◌, length, get_or, take, drop, Ok, Err, sym, refl, ap, ◌∙◌, arith}
+use Rattle.std.proofs.Common.{◌≡◌, ◌+◌, ◌-◌, ◌≤◌, ◌++◌, length, get_or, take, drop, Ok, Err, sym, ap, ◌∙◌, arith}
 use Rattle.std.proofs.lemmas.List.{length-append, length-take}
 use Rattle.machine.specs.Walk.{position}
-use Rattle.machine.proofs.Walks.{along_start, along_step, along_stuck, along_end}
+use Rattle.machine.proofs.Walks.{along_step, along_stuck, along_end}
 use Rattle.table.specs.Table.{table_of}
 use Rattle.filter.specs.Machines.{values_of, machine_of}
 use Rattle.filter.specs.Outcomes.{put, end_of}
@@ -9,13 +9,9 @@ use Rattle.filter.proofs.Emits.{values_few}
 use Rattle.filter.proofs.Puts.{put_append}
 use Rattle.filter.proofs.walk.walk.Goals as goal
 
-pub loop-position-init : goal.loop-position-init
-loop-position-init g c =
-    ([], along_start (machine_of g.A.Alphabet.model (table_of c.args.draft.now)) c.args.text.now c.args.start, refl, omega arith, refl)
-
 pub returns-in_default : goal.returns-in_default
 returns-in_default g c =
-    let M = machine_of g.A.Alphabet.model (table_of c.args.draft.now) in
+    let M = machine_of g.A.Alphabet.model (table_of c.args.filter.now.draft) in
     let I = c.loop-position.invariant in
     let stuck = along_stuck M c.args.text.now c.args.start c.loop-position.position c.loop-position.state I.0 I.1 c.loop-position-test.true c.in_default.ensures.leads in
     record {
@@ -27,12 +23,12 @@ returns-in_default g c =
 pub loop-position-preserved : goal.loop-position-preserved
 loop-position-preserved g c =
     let m = g.A.Alphabet.model in
-    let M = machine_of m (table_of c.args.draft.now) in
+    let M = machine_of m (table_of c.args.filter.now.draft) in
     let I = c.loop-position.invariant in
     let f = c.in-Some.found in
     let L = c.in-Some.ensures.leads in
     let w = I.0 in
-    let terms = take (f.to - f.from) (drop f.from c.args.draft.now.outputs.now) in
+    let terms = take (f.to - f.from) (drop f.from c.args.filter.now.draft.outputs.now) in
     let v = values_of m terms (get_or c.args.text.now c.loop-position.position 0) in
     let few : length terms ≤ 32 = simp length-take (omega (arith, L.ordered, L.few)) in
     let most = values_few m terms (get_or c.args.text.now c.loop-position.position 0) in
@@ -47,7 +43,7 @@ loop-position-preserved g c =
 
 pub returns : goal.returns
 returns g c =
-    let M = machine_of g.A.Alphabet.model (table_of c.args.draft.now) in
+    let M = machine_of g.A.Alphabet.model (table_of c.args.filter.now.draft) in
     let I = c.loop-position.invariant in
     let end = along_end M c.args.text.now c.args.start c.loop-position.position c.loop-position.state I.0 I.1 c.loop-position-test.false in
     record {

@@ -8,7 +8,7 @@ use Rattle.filter.proofs.walk.walk.Given as goal
 abbrev pub invariant-loop-position : goal.invariant-loop-position
 invariant-loop-position g l =
     (w : List ℕ)
-    × Along (machine_of g.A.Alphabet.model (table_of l.draft)) l.text l.start l.position l.state w
+    × Along (machine_of g.A.Alphabet.model (table_of l.filter.draft)) l.text l.start l.position l.state w
     × (length w ≡ l.count)
     × (l.count ≤ 32 * l.position)
     × (put 0 w l.initial.out ≡ l.out)

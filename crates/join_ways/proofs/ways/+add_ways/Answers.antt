@@ -6,6 +6,7 @@ use Rattle.std.proofs.lemmas.Result.{err_from_is_err_and}
 use Rattle.std.proofs.lemmas.Bool.Decides.{nat_tests}
 use Rattle.alphabet.specs.Model.{SoundTerm}
 use Rattle.table.specs.Table.{table_of}
+use Rattle.table.proofs.Soundness.{sound_from_checked}
 use Rattle.join_laws.specs.Lines.{lines_of}
 use Rattle.join_laws.specs.Ways.{ways}
 use Rattle.join_ways.specs.declared.write.Span.{Span}
@@ -20,7 +21,7 @@ use Rattle.join_ways.proofs.ways.+add_ways.Goals.{then-rule-state+in-Some+in_ok-
 pub returns-then-depth-course : goal.returns-then-depth-course
 returns-then-depth-course g t c =
     let m = g.A.Alphabet.model in
-    let F = table_of c.args.course.now.second.now in
+    let F = table_of c.args.course.now.second.now.draft in
     let ts = c.args.course.now.terms.now in
     let d = c.args.depth in
     let ws = map (within F.outputs) (take d c.args.path.now) in
@@ -35,23 +36,23 @@ returns-then-depth-course g t c =
 pub loop-rule-init : goal.loop-rule-init
 loop-rule-init g t c =
     let m = g.A.Alphabet.model in
-    let F = table_of c.args.course.now.second.now in
+    let F = table_of c.args.course.now.second.now.draft in
     let ts = c.args.course.now.terms.now in
     let d = c.args.depth in
     going_start m F c.args.course.now.number (along m (take d ts) (map (within F.outputs) (take d c.args.path.now))) (drop (d + 1) ts) (get_or ts d c.index-course-depth.result) c.args.state c.args.guard
-    c.args.counts c.args.rules.now c.args.outputs.now d c.args.path.now c.requires.second c.args.course.now.first c.requires.first c.requires.rules c.requires.outputs
+    c.args.counts c.args.rules.now c.args.outputs.now d c.args.path.now (sound_from_checked g.A.Alphabet.model g.A.Alphabet.laws (table_of c.args.course.now.second.now.draft) c.args.course.now.second.now.sound) c.args.course.now.first c.args.course.now.starts c.requires.rules c.requires.outputs
 
 pub overflow_add-start : goal.overflow_add-start
 overflow_add-start g t c =
     let e = ends_within _ _ _ _ _ _ _ _ _ _ _ _ _ _ _ _ _ _ _ c.loop-rule.invariant c.rule-item.result c.loop-rule-test.true c.rule-item.is in
-    let few = c.requires.second.few_outputs in
+    let few = (sound_from_checked g.A.Alphabet.model g.A.Alphabet.laws (table_of c.args.course.now.second.now.draft) c.args.course.now.second.now.sound).few_outputs in
     search rules
 
 pub narrowed-requires : goal.narrowed-requires
 narrowed-requires g t c = record {
   guard = c.requires.guard;
-  term = All-get_or (SoundTerm g.A.Alphabet.model) c.args.course.now.terms.now c.args.depth c.index-course-depth.result c.if-depth-course.false c.requires.terms;
-  into = c.requires.second.guard c.loop-rule.rule-index c.rule-item.result (slice_get_read c.args.course.now.second.now.rules.now _ c.loop-rule.rule-index c.rule-item.result refl c.loop-rule-test.true c.rule-item.is);
+  term = All-get_or (SoundTerm g.A.Alphabet.model) c.args.course.now.terms.now c.args.depth c.index-course-depth.result c.if-depth-course.false c.args.course.now.sound;
+  into = (sound_from_checked g.A.Alphabet.model g.A.Alphabet.laws (table_of c.args.course.now.second.now.draft) c.args.course.now.second.now.sound).guard c.loop-rule.rule-index c.rule-item.result (slice_get_read c.args.course.now.second.now.draft.rules.now _ c.loop-rule.rule-index c.rule-item.result refl c.loop-rule-test.true c.rule-item.is);
 }
 
 pub loop-rule-preserved-in_default : goal.loop-rule-preserved-in_default
@@ -63,7 +64,7 @@ pub add_ways-requires : goal.add_ways-requires
 add_ways-requires g t c κs inside =
     let m = g.A.Alphabet.model in
     let I = c.loop-rule.invariant in
-    let S = c.args.course.now.second.now.outputs.now in
+    let S = c.args.course.now.second.now.draft.outputs.now in
     let r = c.rule-item.result in
     let start = c.loop-rule.start in
     let rl = rules_long _ _ _ _ _ _ _ I.added in
@@ -71,8 +72,8 @@ add_ways-requires g t c κs inside =
     let h = c.in-Some.narrower in
     let ts = c.args.course.now.terms.now in
     let x = c.index-course-depth.result in
-    let st = All-get_or (SoundTerm m) ts c.args.depth x c.if-depth-course.false c.requires.terms in
-    let sl = c.requires.second.guard c.loop-rule.rule-index r (slice_get_read c.args.course.now.second.now.rules.now _ c.loop-rule.rule-index r refl c.loop-rule-test.true c.rule-item.is) in
+    let st = All-get_or (SoundTerm m) ts c.args.depth x c.if-depth-course.false c.args.course.now.sound in
+    let sl = (sound_from_checked g.A.Alphabet.model g.A.Alphabet.laws (table_of c.args.course.now.second.now.draft) c.args.course.now.second.now.sound).guard c.loop-rule.rule-index r (slice_get_read c.args.course.now.second.now.draft.rules.now _ c.loop-rule.rule-index r refl c.loop-rule-test.true c.rule-item.is) in
     let spans = spans_sound m S ts c.args.path.now c.loop-rule.path c.args.depth (record { from = start; to = start + r.outputs }) x 0 c.if-depth-course.false (omega arith) I.kept
     c.requires.spans (span_sound _ _ _ _ _ _ _ _ _ _ _ _ _ _ _ _ _ _ _ I r c.loop-rule-test.true c.rule-item.is) in
     let guard = g.A.Alphabet.laws.narrowed_sound c.args.guard r.guard h (get_or ts c.args.depth x) c.requires.guard st sl (sym c.narrowed.ensures ∙ c.in-Some.is) in (
@@ -84,23 +85,14 @@ add_ways-requires g t c κs inside =
           (
             inside.1.1,
             (
-              c.requires.second,
+              omega arith,
               (
-                c.requires.first,
+                simp length-set (omega arith),
                 (
-                  c.requires.terms,
+                  spans,
                   (
-                    omega arith,
-                    (
-                      simp length-set (omega arith),
-                      (
-                        spans,
-                        (
-                          guard,
-                          (omega (arith, I.added.rule_count, I.added.fits.rules_fit), omega (arith, I.added.output_count, I.added.fits.outputs_fit)),
-                        ),
-                      ),
-                    ),
+                    guard,
+                    (omega (arith, I.added.rule_count, I.added.fits.rules_fit), omega (arith, I.added.output_count, I.added.fits.outputs_fit)),
                   ),
                 ),
               ),
@@ -113,7 +105,7 @@ add_ways-requires g t c κs inside =
 pub returns-in_err-so_far : goal.returns-in_err-so_far
 returns-in_err-so_far g t c =
     let m = g.A.Alphabet.model in
-    let F = table_of c.args.course.now.second.now in
+    let F = table_of c.args.course.now.second.now.draft in
     let ts = c.args.course.now.terms.now in
     let d = c.args.depth in
     let I = c.loop-rule.invariant in
@@ -141,7 +133,7 @@ pub loop-rule-preserved : goal.loop-rule-preserved
 loop-rule-preserved g t c = elim c.if-rule-state.branch [
   | then-rule-state+in-Some+in_ok-so_far w ↦
       let m = g.A.Alphabet.model in
-      let F = table_of c.args.course.now.second.now in
+      let F = table_of c.args.course.now.second.now.draft in
       let ts = c.args.course.now.terms.now in
       let d = c.args.depth in
       let I = c.loop-rule.invariant in
@@ -170,7 +162,7 @@ loop-rule-preserved g t c = elim c.if-rule-state.branch [
 pub returns : goal.returns
 returns g t c =
     let m = g.A.Alphabet.model in
-    let F = table_of c.args.course.now.second.now in
+    let F = table_of c.args.course.now.second.now.draft in
     let ts = c.args.course.now.terms.now in
     let d = c.args.depth in
     let I = c.loop-rule.invariant in

@@ -10,7 +10,7 @@ decreases-add_ways g l = length l.course.now.terms.now - l.depth
 abbrev pub invariant-loop-rule : goal.invariant-loop-rule
 invariant-loop-rule g l =
     let m = g.A.Alphabet.model in
-    let F = table_of l.course.second.now in
+    let F = table_of l.course.second.now.draft in
     let ts = l.course.terms.now in
     let acc = along m (take l.depth ts) (map (within F.outputs) (take l.depth l.initial.path)) in
     Going m F l.course.number acc (drop (l.depth + 1) ts) l.term l.state l.guard l.initial.so_far l.initial.rules l.initial.outputs l.depth l.initial.path

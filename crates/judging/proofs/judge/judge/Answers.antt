@@ -1,10 +1,11 @@
-use Rattle.std.proofs.Common.{◌+◌, ◌≤◌, true, false, sym, ◌∙◌, mul-le-mul_right, arith}
+use Rattle.std.proofs.Common.{◌+◌, ◌≤◌, sym, ◌∙◌, mul-le-mul_right, arith}
 use Rattle.std.proofs.lemmas.Bool.{both_ways}
 use Rattle.table.specs.Table.{table_of}
 use Rattle.steps.specs.Steps.{at}
-use Rattle.steps.specs.Places.{steps_needed_lem}
+use Rattle.steps.specs.declared.step.Visit.TheVariants.{First, Second}
+use Rattle.steps.specs.Places.{steps_needed_lem, place_of}
 use Rattle.steps.proofs.Placing.{place_below, place_room}
-use Rattle.judging.proofs.Judging.{proper_first, proper_again, step_attached, next_attached, step_room, next_earlier, judged_half, judged_same, judged_twice, next_lag, step_lag}
+use Rattle.judging.proofs.Judging.{found_some, found_none, proper_first, proper_again, step_attached, next_attached, step_room, next_earlier, judged_half, judged_same, judged_twice, next_lag, step_lag}
 use Rattle.judging.proofs.judge.judge.Goals as goal
 
 pub find-requires : goal.find-requires
@@ -20,7 +21,7 @@ find-requires g c =
       left = c.requires.framed.few_left;
       right = c.requires.framed.few_right;
       placed = c.requires.going.kept.placed;
-      within = omega (arith, place_below p q x.left.state x.right.state false (proper_first p q x.left.state x.right.state E.known_left E.known_right c.requires.alive));
+      within = omega (arith, place_below p q x.left.state x.right.state First (proper_first p q x.left.state x.right.state E.known_left E.known_right c.requires.alive));
     }
 
 pub returns-then-not-both_live : goal.returns-then-not-both_live
@@ -50,11 +51,11 @@ find-requires-2 g c =
       left = c.requires.framed.few_left;
       right = c.requires.framed.few_right;
       placed = c.requires.going.kept.placed;
-      within = omega (arith, place_below p q x.left.state x.right.state true (proper_again p q x.left.state x.right.state E.known_left E.known_right (sym c.both_live.ensures ∙ c.if-not-both_live.false)));
+      within = omega (arith, place_below p q x.left.state x.right.state Second (proper_again p q x.left.state x.right.state E.known_left E.known_right (sym c.both_live.ensures ∙ c.if-not-both_live.false)));
     }
 
-pub returns-in-Some-find : goal.returns-in-Some-find
-returns-in-Some-find g c =
+pub returns-then-is_some : goal.returns-then-is_some
+returns-then-is_some g c =
     let m = g.A.Alphabet.model in
     let F = table_of c.args.left.now in
     let H = table_of c.args.right.now in
@@ -62,11 +63,12 @@ returns-in-Some-find g c =
     let q = c.args.frame.right in
     let x = c.args.next in
     let E = c.requires.extends in
+    let found = found_some p q (place_of p q x.left.state x.right.state Second) c.args.steps.now c.find-2.result (sym c.is_some.ensures ∙ c.if-is_some.true) c.find-2.ensures in
     judged_twice m F H p q c.args.frame.width c.args.steps.now c.args.cells.now x E c.requires.going.kept
     (next_earlier m F H p q c.args.frame.width c.args.steps.now c.args.cells.now x.parent x.symbol c.requires.going)
-    c.in-Some-find.field-0 c.in-Some-find.ensures.0
+    found.0 found.1
     (proper_again p q x.left.state x.right.state E.known_left E.known_right (sym c.both_live.ensures ∙ c.if-not-both_live.false))
-    (proper_first p q x.left.state x.right.state E.known_left E.known_right c.requires.alive) c.in-Some-find.ensures.1
+    (proper_first p q x.left.state x.right.state E.known_left E.known_right c.requires.alive) found.2
 
 pub lags_alike-requires : goal.lags_alike-requires
 lags_alike-requires g c =
@@ -128,6 +130,6 @@ returns g c =
     let L = c.args.steps.now in
     let C = c.args.cells.now in (
       proper_again p q x.left.state x.right.state E.known_left E.known_right (sym c.both_live.ensures ∙ c.if-not-both_live.false),
-      c.in_default-find.ensures,
+      found_none p q (place_of p q x.left.state x.right.state Second) L c.find-2.result (sym c.is_some.ensures ∙ c.if-is_some.false) c.find-2.ensures,
       λ _. (c.in-Some.first, c.in-Some.ensures.0, c.in-Some.ensures.1, λ e. both_ways c.lags_alike.result c.if-lags_alike.false (c.lags_alike.ensures.1 (step_lag m F H p q w L C c.requires.going.kept c.in-Some.first c.in-Some.ensures.0 ∙ e ∙ sym (next_lag m F H p q w L C x E)))),
     )

@@ -9,7 +9,7 @@ use Rattle.replay.proofs.written.whole.Goals as goal
 pub returns-in_err-state : goal.returns-in_err-state
 returns-in_err-state g c =
     let m = g.A.Alphabet.model in
-    let F = table_of c.args.draft.now in
+    let F = table_of c.args.filter.now.draft in
     let dead = ap (λ (s : Side). s.state) (sym c.side_of.ensures) ∙ c.in_err-state.was in
     record {
       whole = ap (λ o. wrote o c.args.out.now) c.from_residual.ensures ∙ sym (whole_dead m F (text c.args.steps.now c.args.step.parent) c.args.step.symbol (side_of c.args.hand c.args.step) dead);
@@ -19,7 +19,7 @@ returns-in_err-state g c =
 pub returns : goal.returns
 returns g c =
     let m = g.A.Alphabet.model in
-    let F = table_of c.args.draft.now in
+    let F = table_of c.args.filter.now.draft in
     let alive = ap (λ (s : Side). s.state) (sym c.side_of.ensures) ∙ c.in_ok-state.was in
     let room = subst (λ n. RoomFor m F (side_of c.args.hand c.args.step) n) (sym c.output-count.auto.out) c.requires.room in
     let done = whole_finished m F (text c.args.steps.now c.args.step.parent) c.args.step.symbol (side_of c.args.hand c.args.step) c.in_ok-state.state alive

@@ -1,6 +1,6 @@
 use Rattle.std.proofs.Common.{Err, sym, ap, ◌∙◌, subst}
 use Rattle.std.proofs.lemmas.Result.{err_from_is_err_and}
-use Rattle.shelf_holdings.specs.Memory.{memory_of}
+use Rattle.holdings.specs.Memory.{memory_of}
 use Rattle.shelf_law.specs.Calls.{Joining, Does, unreadable, no_first, no_second}
 use Rattle.shelf_law.proofs.Compositions.{joining_composes}
 use Rattle.shelf_law.proofs.Laws.{law_of}

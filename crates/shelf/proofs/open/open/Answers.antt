@@ -1,5 +1,5 @@
 use Rattle.std.proofs.Common.{[], sym, subst}
-use Rattle.shelf_holdings.specs.Memory.{memory_of}
+use Rattle.holdings.specs.Memory.{memory_of}
 use Rattle.shelf_law.specs.History.{Reached, opening}
 use Rattle.shelf_law.proofs.Laws.{law_holds_lem}
 use Rattle.shelf.proofs.open.open.Goals as goal

@@ -1,6 +1,6 @@
 use Rattle.std.proofs.Common.{◌≡◌, length, vec_items, ap, ◌∙◌, subst, arith}
 use Rattle.table.specs.Table.{table_of}
-use Rattle.shelf_holdings.specs.Memory.{memory_of}
+use Rattle.holdings.specs.Memory.{memory_of}
 use Rattle.shelf_law.specs.Scratch.{scratch_of}
 use Rattle.shelving.specs.Runs.{Run}
 use Rattle.shelving.proofs.Running.{run_none, run_more}

@@ -1,5 +1,5 @@
 use Rattle.std.proofs.Common.{length, vec_items}
-use Rattle.shelf_holdings.specs.Memory.{memory_of}
+use Rattle.holdings.specs.Memory.{memory_of}
 use Rattle.shelf_law.specs.Scratch.{scratch_of}
 use Rattle.shelving.specs.Runs.{Run}
 use Rattle.shelving.proofs.filing.file_bodies.Given as goal

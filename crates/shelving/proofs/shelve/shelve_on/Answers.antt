@@ -1,9 +1,9 @@
 use Rattle.std.proofs.Common.{[], length, vec_items, sym, refl, arith}
-use Rattle.shelf_holdings.specs.Memory.{memory_of}
-use Rattle.shelf_holdings.proofs.Parts.{fitting}
+use Rattle.holdings.specs.Memory.{memory_of}
+use Rattle.holdings.proofs.Parts.{fitting}
 use Rattle.shelf_law.specs.Scratch.{scratch_of}
 use Rattle.shelf_law.proofs.Laws.{law_holds_lem}
-use Rattle.shelf_law.proofs.Readable.{readable_fits}
+use Rattle.holdings.proofs.ReadThrough.{readable_fits}
 use Rattle.shelving.proofs.Separating.{separable_at}
 use Rattle.shelving.proofs.Shelvings.{Led, run_led, led_separable}
 use Rattle.shelving.proofs.shelve.shelve_on.Goals as goal

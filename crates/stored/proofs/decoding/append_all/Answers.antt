@@ -1,6 +1,6 @@
 use Rattle.std.proofs.Common.{◌≡◌, ◌≤◌, Some, None, ap, ◌∙◌, arith}
 use Rattle.std.proofs.lemmas.List.{take_all}
-use Rattle.shelf_holdings.specs.Memory.{memory_of}
+use Rattle.holdings.specs.Memory.{memory_of}
 use Rattle.codec_laws.specs.Numbers.{at}
 use Rattle.stored_laws.specs.Shelved.{shelved}
 use Rattle.reader.specs.Parts.{parts_of}

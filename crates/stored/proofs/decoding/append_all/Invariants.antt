@@ -1,5 +1,5 @@
 use Rattle.std.proofs.Common.{◌≡◌, ◌≤◌, take}
-use Rattle.shelf_holdings.specs.Memory.{memory_of}
+use Rattle.holdings.specs.Memory.{memory_of}
 use Rattle.codec_laws.specs.Numbers.{at}
 use Rattle.stored_laws.specs.Shelved.{shelved}
 use Rattle.stored.specs.Bodies.{tables_of_file}

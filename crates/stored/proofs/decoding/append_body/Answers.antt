@@ -1,7 +1,7 @@
 use Rattle.std.proofs.Common.{◌+◌, set, sym, refl, ap}
-use Rattle.shelf_holdings.specs.declared.memory.Entry.{Entry}
-use Rattle.shelf_holdings.specs.Memory.{memory_of}
-use Rattle.shelf_holdings.specs.Append.{appended}
+use Rattle.holdings.specs.declared.memory.Entry.{Entry}
+use Rattle.holdings.specs.Memory.{memory_of}
+use Rattle.holdings.specs.Append.{appended}
 use Rattle.stored_laws.proofs.Shelves.{same_head, same_memory}
 use Rattle.stored.specs.Bodies.{body_table}
 use Rattle.stored.proofs.Handed.{body_counts}

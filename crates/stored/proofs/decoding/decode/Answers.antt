@@ -1,6 +1,6 @@
 use Rattle.std.proofs.Common.{◌<◌, cond, is_ok, Err, Result, sym, refl, ap, ◌∙◌, arith}
 use Rattle.std.proofs.lemmas.Result.{err_from_is_err_and}
-use Rattle.shelf_holdings.specs.Memory.{memory_of}
+use Rattle.holdings.specs.Memory.{memory_of}
 use Rattle.stored_laws.specs.declared.StoredFault.{StoredFault}
 use Rattle.stored_laws.specs.Shelved.{room_for, shelved, decoded, decoded_memory}
 use Rattle.stored.specs.Bodies.{tables_of_file}

@@ -1,6 +1,6 @@
 use Rattle.std.proofs.Common.{◌≡◌, ◌≤◌, None, ap, ◌∙◌, arith}
 use Rattle.std.proofs.lemmas.List.{take_all}
-use Rattle.shelf_holdings.specs.Memory.{states_of_lem, rules_of, outputs_of_lem}
+use Rattle.holdings.specs.Memory.{states_of_lem, rules_of, outputs_of_lem}
 use Rattle.codec_laws.specs.Numbers.{at}
 use Rattle.stored_laws.specs.Format.{contents}
 use Rattle.reader.specs.Parts.{parts_of}

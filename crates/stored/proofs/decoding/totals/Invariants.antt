@@ -1,5 +1,5 @@
 use Rattle.std.proofs.Common.{◌≡◌, ◌*◌, ◌≤◌, take}
-use Rattle.shelf_holdings.specs.Memory.{states_of_lem, rules_of, outputs_of_lem}
+use Rattle.holdings.specs.Memory.{states_of_lem, rules_of, outputs_of_lem}
 use Rattle.codec_laws.specs.Numbers.{at}
 use Rattle.stored_laws.specs.Format.{contents}
 use Rattle.stored.proofs.decoding.totals.Given as goal

@@ -2,10 +2,10 @@ use Rattle.std.proofs.Common.{◌≡◌, ℕ, ◌+◌, ◌-◌, ◌*◌, ◌≤�
 use Rattle.std.specs.List.{flat_map}
 use Rattle.std.proofs.lemmas.List.{length-take-le}
 use Rattle.table.specs.Table.{table_of}
-use Rattle.shelf_holdings.specs.Memory.{memory_of, in_use}
-use Rattle.shelf_holdings.specs.Check.{checked_shelf}
-use Rattle.shelf_holdings.specs.Append.{over}
-use Rattle.shelf_holdings.proofs.Parts.{fitting}
+use Rattle.holdings.specs.Memory.{memory_of, in_use}
+use Rattle.holdings.specs.Check.{checked_shelf}
+use Rattle.holdings.specs.Append.{over}
+use Rattle.holdings.proofs.Parts.{fitting}
 use Rattle.codec_laws.specs.Entries.{entry_code}
 use Rattle.codec_laws.specs.Lists.{image_all}
 use Rattle.codec_laws.proofs.Overs.{over_none}

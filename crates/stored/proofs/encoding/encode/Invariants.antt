@@ -1,7 +1,7 @@
 use Rattle.std.proofs.Common.{◌≡◌, ◌+◌, length, take}
 use Rattle.std.specs.List.{flat_map}
-use Rattle.shelf_holdings.specs.Memory.{memory_of}
-use Rattle.shelf_holdings.specs.Append.{over}
+use Rattle.holdings.specs.Memory.{memory_of}
+use Rattle.holdings.specs.Append.{over}
 use Rattle.stored_laws.specs.Format.{body_of}
 use Rattle.stored_laws.specs.Shelved.{tables_of}
 use Rattle.stored.proofs.encoding.encode.Given as goal

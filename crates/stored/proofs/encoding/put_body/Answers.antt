@@ -1,6 +1,6 @@
 use Rattle.std.proofs.Common.{ap, ◌∙◌, arith}
 use Rattle.table.specs.Table.{table_of}
-use Rattle.shelf_holdings.specs.Append.{over}
+use Rattle.holdings.specs.Append.{over}
 use Rattle.codec_laws.specs.Entries.{state_code, rule_code}
 use Rattle.codec_laws.specs.Lists.{image_all}
 use Rattle.stored.proofs.Encodes.{three_over, states_size, rules_size, body_length}

@@ -9,13 +9,10 @@ loop-symbol-init g c = (c.requires.going, c.requires.step, refl, refl)
 
 pub attempt-requires : goal.attempt-requires
 attempt-requires g c = record {
-  left = c.requires.left;
-  right = c.requires.right;
-  framed = c.requires.framed;
   slots = omega (arith, c.requires.slots, c.loop-symbol.invariant.3);
   cells = omega (arith, c.requires.cells, c.loop-symbol.auto.cells);
   room = omega (arith, c.requires.room, c.loop-symbol.auto.outputs);
-  going = going_reach g.A.Alphabet.model (table_of c.args.left.now) (table_of c.args.right.now) c.args.frame.left c.args.frame.right c.args.frame.width (entries c.loop-symbol.queue) c.loop-symbol.cells c.args.number c.loop-symbol.from c.loop-symbol.invariant.0
+  going = going_reach g.A.Alphabet.model (table_of c.args.pair.now.left.now.draft) (table_of c.args.pair.now.right.now.draft) c.args.pair.now.frame.left c.args.pair.now.frame.right c.args.pair.now.frame.width (entries c.loop-symbol.queue) c.loop-symbol.cells c.args.number c.loop-symbol.from c.loop-symbol.invariant.0
       c.args.step c.loop-symbol.invariant.1 c.in-Some.symbol c.in-Some.ensures.guided;
 }
 
@@ -29,7 +26,7 @@ loop-symbol-preserved g c =
 
 pub returns : goal.returns
 returns g c = record {
-  turned = going_end g.A.Alphabet.model (table_of c.args.left.now) (table_of c.args.right.now) c.args.frame.left c.args.frame.right c.args.frame.width (entries c.loop-symbol.queue) c.loop-symbol.cells c.args.number c.loop-symbol.from c.loop-symbol.invariant.0
+  turned = going_end g.A.Alphabet.model (table_of c.args.pair.now.left.now.draft) (table_of c.args.pair.now.right.now.draft) c.args.pair.now.frame.left c.args.pair.now.frame.right c.args.pair.now.frame.width (entries c.loop-symbol.queue) c.loop-symbol.cells c.args.number c.loop-symbol.from c.loop-symbol.invariant.0
       c.args.step c.loop-symbol.invariant.1 c.in_default.ensures.guided;
   taken = c.loop-symbol.invariant.2;
   slots = c.loop-symbol.invariant.3;

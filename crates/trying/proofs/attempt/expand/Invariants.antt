@@ -7,7 +7,7 @@ use Rattle.trying.proofs.attempt.expand.Given as goal
 
 abbrev pub invariant-loop-symbol : goal.invariant-loop-symbol
 invariant-loop-symbol g l =
-    Going g.A.Alphabet.model (table_of l.left) (table_of l.right) l.frame.left l.frame.right l.frame.width (entries l.queue) l.cells l.number l.from
+    Going g.A.Alphabet.model (table_of l.pair.left.now.draft) (table_of l.pair.right.now.draft) l.pair.frame.left l.pair.frame.right l.pair.frame.width (entries l.queue) l.cells l.number l.from
     × (l.step ≡ at (entries l.queue) l.number)
     × (l.queue.taken ≡ l.initial.queue.taken)
     × (room l.queue ≡ room l.initial.queue)
