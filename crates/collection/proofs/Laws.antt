@@ -15,7 +15,7 @@ use Rattle.collection.specs.Filing.{Answer, Held, Unreadable, NoFilter, ShortScr
 use Rattle.collection.specs.History.{Call, Does, Reached, opening, calling}
 use Rattle.collection.specs.Law.{Right, Represented, Answered, Kept, Law, KeepsLaw}
 use Rattle.holdings.proofs.Equivalences.{equivalent_refl, equivalent_sym, equivalent_trans}
-use Rattle.holdings.proofs.Readable.{readable_fits, readable_sound, opened_readable, appended_readable}
+use Rattle.holdings.proofs.ReadThrough.{readable_fits, readable_sound, opened_readable, appended_readable}
 
 less_same_more : (i j : ℕ) → (i < j) ⊎ ((j < i) ⊎ (j ≡ i))
 less_same_more i j = grind arith

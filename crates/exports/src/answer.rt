@@ -1,15 +1,31 @@
 // What an exported call answers.
 ghost use Rattle.std.specs.Prelude.{◌≡◌, length};
 ghost use Rattle.steps.specs.Steps.{written_to};
-ghost use Rattle.exports.specs.Answers.{answer, cause_of_lem, refusal, check_answer_lem, transduce_answer_lem, tell_answer, compare_answer_lem, witness_after};
+ghost use Rattle.exports.specs.Answers.{answer, kind_number, cause_of_lem, refusal, check_answer_lem, transduce_answer_lem, tell_answer, compare_answer_lem, witness_after};
 
 use alphabet::Cause;
 use comparing::CompareFault;
 use filter::{Outcome, TransduceFault};
 use table::{FaultCode, TableFault};
 
-// The kind says what the three numbers are, call by call. Kind 2 is a refusal with a fault's number, its place and its
-// cause or 0; kind 3 says that there is not enough memory.
+// What an answer says. The numbers are those that a caller in another language reads.
+#[derive(Clone, Copy, PartialEq)]
+pub enum Kind {
+    // The table is sound, the text is written, the filters are equivalent or joined.
+    Done = 0,
+    // The text is rejected, the filters are distinguished, or the joined one is over a limit.
+    Otherwise = 1,
+    // The table, or the first of two, is refused with a fault's number, its place and its cause or 0.
+    Refused = 2,
+    // There is not enough memory.
+    NoMemory = 3,
+    // The second of two tables is refused.
+    SecondRefused = 4,
+    // The witness, or a list, is too short.
+    TooShort = 5,
+}
+
+// Four numbers and no enum, since C callers read them: the kind says what the other three are, call by call.
 #[repr(C)]
 #[derive(Clone, Copy)]
 pub struct Answer {
@@ -19,11 +35,19 @@ pub struct Answer {
     pub third: usize,
 }
 
-pub fn answer_of(kind: u32, first: usize, second: usize, third: usize) -> Answer
-    ensures { result ≡ answer kind first second third }
+// There is not enough memory.
+pub const NO_MEMORY: Answer = Answer {
+    kind: Kind::NoMemory as u32,
+    first: 0,
+    second: 0,
+    third: 0,
+};
+
+pub fn answer_of(kind: Kind, first: usize, second: usize, third: usize) -> Answer
+    ensures { result ≡ answer (kind_number kind) first second third }
 {
     Answer {
-        kind,
+        kind: kind as u32,
         first,
         second,
         third,
@@ -33,15 +57,12 @@ pub fn answer_of(kind: u32, first: usize, second: usize, third: usize) -> Answer
 fn cause_of(cause: Option<Cause>) -> usize
     ensures { result ≡ cause_of_lem cause }
 {
-    match cause {
-        Some(cause) => cause.number() as usize,
-        None => 0,
-    }
+    cause.map_or(0, |cause| cause.number() as usize)
 }
 
 // A refusal of this kind.
-pub fn refused(kind: u32, code: FaultCode) -> Answer
-    ensures { result ≡ refusal kind code }
+pub fn refused(kind: Kind, code: FaultCode) -> Answer
+    ensures { result ≡ refusal (kind_number kind) code }
 {
     answer_of(kind, code.number as usize, code.place, cause_of(code.cause))
 }
@@ -50,8 +71,8 @@ pub fn check_answer(outcome: Result<(), TableFault>) -> Answer
     ensures { result ≡ check_answer_lem outcome }
 {
     match outcome {
-        Ok(()) => answer_of(0, 0, 0, 0),
-        Err(fault) => refused(2, fault.code()),
+        Ok(()) => answer_of(Kind::Done, 0, 0, 0),
+        Err(fault) => refused(Kind::Refused, fault.code()),
     }
 }
 
@@ -59,9 +80,9 @@ pub fn transduce_answer(outcome: Result<Outcome, TransduceFault>) -> Answer
     ensures { result ≡ transduce_answer_lem outcome }
 {
     match outcome {
-        Ok(Outcome::Written { state, count }) => answer_of(0, state as usize, count, 0),
-        Ok(Outcome::Rejected { position }) => answer_of(1, position, 0, 0),
-        Err(fault) => refused(2, fault.code()),
+        Ok(Outcome::Written { state, count }) => answer_of(Kind::Done, state as usize, count, 0),
+        Ok(Outcome::Rejected { position }) => answer_of(Kind::Otherwise, position, 0, 0),
+        Err(fault) => refused(Kind::Refused, fault.code()),
     }
 }
 
@@ -72,10 +93,10 @@ pub fn tell(text: &[u32], witness: &mut [u32]) -> Answer
 {
     let count = text.len();
     if count > witness.len() {
-        return answer_of(5, count, 0, 0);
+        return answer_of(Kind::TooShort, count, 0, 0);
     }
     witness[0..count].copy_from_slice(text);
-    answer_of(1, count, 0, 0)
+    answer_of(Kind::Otherwise, count, 0, 0)
 }
 
 // The answer to a comparison, with a distinguishing text written to the witness.
@@ -87,10 +108,10 @@ pub fn compare_answer(
     ensures witness { witness.new ≡ witness_after outcome witness.old }
 {
     match outcome {
-        Ok(None) => answer_of(0, 0, 0, 0),
+        Ok(None) => answer_of(Kind::Done, 0, 0, 0),
         Ok(Some(text)) => tell(text.as_slice(), witness),
-        Err(CompareFault::First(fault)) => refused(2, fault.code()),
-        Err(CompareFault::Second(fault)) => refused(4, fault.code()),
-        Err(CompareFault::NoMemory) => answer_of(3, 0, 0, 0),
+        Err(CompareFault::First(fault)) => refused(Kind::Refused, fault.code()),
+        Err(CompareFault::Second(fault)) => refused(Kind::SecondRefused, fault.code()),
+        Err(CompareFault::NoMemory) => NO_MEMORY,
     }
 }

@@ -3,7 +3,7 @@ ghost use Rattle.exports.specs.Flats.{flat_table};
 ghost use Rattle.exports.specs.Calls.{Checks, Transduced, Compared};
 ghost use Rattle.exports.specs.Joins.{JoinedTo};
 
-use crate::answer::{Answer, answer_of, check_answer, compare_answer, transduce_answer};
+use crate::answer::{Answer, NO_MEMORY, check_answer, compare_answer, transduce_answer};
 use crate::flat::{FlatRule, FlatState, FlatTerm};
 use crate::joining::{join_answer, join_drafts};
 use crate::owned::read;
@@ -22,7 +22,7 @@ pub extern "C" fn cutamllay_check(
     ensures { Checks (flat_table states.now rules.now outputs.now) result }
 {
     let Ok(table) = read(heap, states, rules, outputs) else {
-        return answer_of(3, 0, 0, 0);
+        return NO_MEMORY;
     };
     let draft = table.draft();
     check_answer(draft.check())
@@ -42,7 +42,7 @@ pub extern "C" fn cutamllay_transduce(
     ensures { Transduced (flat_table states.now rules.now outputs.now) text.now out.old out.new result }
 {
     let Ok(table) = read(heap, states, rules, outputs) else {
-        return answer_of(3, 0, 0, 0);
+        return NO_MEMORY;
     };
     let draft = table.draft();
     transduce_answer(transduce(&draft, text, out))
@@ -65,10 +65,10 @@ pub extern "C" fn cutamllay_compare(
     ensures { Compared (flat_table first_states.now first_rules.now first_outputs.now) (flat_table second_states.now second_rules.now second_outputs.now) witness.old witness.new result }
 {
     let Ok(first) = read(heap, first_states, first_rules, first_outputs) else {
-        return answer_of(3, 0, 0, 0);
+        return NO_MEMORY;
     };
     let Ok(second) = read(heap, second_states, second_rules, second_outputs) else {
-        return answer_of(3, 0, 0, 0);
+        return NO_MEMORY;
     };
     let left = first.draft();
     let right = second.draft();
@@ -94,10 +94,10 @@ pub extern "C" fn cutamllay_join(
     ensures { JoinedTo (flat_table first_states.now first_rules.now first_outputs.now) (flat_table second_states.now second_rules.now second_outputs.now) states.old states.new rules.old rules.new outputs.old outputs.new result }
 {
     let Ok(first) = read(heap, first_states, first_rules, first_outputs) else {
-        return answer_of(3, 0, 0, 0);
+        return NO_MEMORY;
     };
     let Ok(second) = read(heap, second_states, second_rules, second_outputs) else {
-        return answer_of(3, 0, 0, 0);
+        return NO_MEMORY;
     };
     let left = first.draft();
     let right = second.draft();

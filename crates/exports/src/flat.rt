@@ -1,9 +1,8 @@
 // Flat entries: the tables of byte filters as a caller in another language writes them.
-ghost use Rattle.std.specs.Prelude.{◌≡◌, ◌≤◌, ◌++◌, map, length, drop, IfOk};
+ghost use Rattle.std.specs.Prelude.{◌≡◌, ◌≤◌, ◌++◌, map, length, drop};
 ghost use Rattle.exports.specs.Flats.{state_of, rule_of_lem, term_of, flat_state, flat_rule, flat_term};
 
 use ranges::{Range, RangeTerm};
-use std::alloc::{AllocError, Global};
 use table::{Rule, State};
 
 #[repr(C)]
@@ -24,7 +23,7 @@ pub struct FlatRule {
     pub high: u32,
 }
 
-// A constant where the tag is 0, else a shift.
+// A constant where the tag is 0, else a shift: three fields and no enum, since C callers fill it in.
 #[repr(C)]
 #[derive(Clone, Copy)]
 pub struct FlatTerm {
@@ -33,90 +32,75 @@ pub struct FlatTerm {
     pub shift: i32,
 }
 
-// An entry that stands for one of a table.
-pub trait Flat {
-    type Entry: Copy;
+impl From<FlatState> for State {
+    ghost from_gives = { λ s r. r ≡ state_of s };
 
-    ghost meaning: { Self → Self.Entry };
-
-    ghost shape: { Self.Entry → Self };
-
-    fn entry(self) -> Self::Entry
-        ensures { result ≡ meaning self };
-
-    fn flat(entry: Self::Entry) -> Self
-        ensures { result ≡ shape entry };
-}
-
-impl Flat for FlatState {
-    type Entry = State;
-
-    ghost meaning = { state_of };
-
-    ghost shape = { flat_state };
-
-    fn entry(self) -> State {
+    fn from(flat: FlatState) -> State {
         State {
-            mark: self.mark,
-            finals: self.finals,
-        }
-    }
-
-    fn flat(entry: State) -> FlatState {
-        FlatState {
-            mark: entry.mark,
-            finals: entry.finals,
+            mark: flat.mark,
+            finals: flat.finals,
         }
     }
 }
 
-impl Flat for FlatRule {
-    type Entry = Rule<Range>;
+impl From<State> for FlatState {
+    ghost from_gives = { λ s r. r ≡ flat_state s };
 
-    ghost meaning = { rule_of_lem };
+    fn from(state: State) -> FlatState {
+        FlatState {
+            mark: state.mark,
+            finals: state.finals,
+        }
+    }
+}
 
-    ghost shape = { flat_rule };
+impl From<FlatRule> for Rule<Range> {
+    ghost from_gives = { λ f r. r ≡ rule_of_lem f };
 
-    fn entry(self) -> Rule<Range> {
+    fn from(flat: FlatRule) -> Rule<Range> {
         Rule {
-            state: self.state,
-            next: self.next,
-            outputs: self.outputs,
+            state: flat.state,
+            next: flat.next,
+            outputs: flat.outputs,
             guard: Range {
-                low: self.low,
-                high: self.high,
+                low: flat.low,
+                high: flat.high,
             },
         }
     }
+}
 
-    fn flat(entry: Rule<Range>) -> FlatRule {
+impl From<Rule<Range>> for FlatRule {
+    ghost from_gives = { λ f r. r ≡ flat_rule f };
+
+    fn from(rule: Rule<Range>) -> FlatRule {
         FlatRule {
-            state: entry.state,
-            next: entry.next,
-            outputs: entry.outputs,
-            low: entry.guard.low,
-            high: entry.guard.high,
+            state: rule.state,
+            next: rule.next,
+            outputs: rule.outputs,
+            low: rule.guard.low,
+            high: rule.guard.high,
         }
     }
 }
 
-impl Flat for FlatTerm {
-    type Entry = RangeTerm;
+impl From<FlatTerm> for RangeTerm {
+    ghost from_gives = { λ t r. r ≡ term_of t };
 
-    ghost meaning = { term_of };
-
-    ghost shape = { flat_term };
-
-    fn entry(self) -> RangeTerm {
-        if self.tag == 0 {
-            RangeTerm::Constant(self.constant)
+    fn from(flat: FlatTerm) -> RangeTerm {
+        if flat.tag == 0 {
+            RangeTerm::Constant(flat.constant)
         } else {
-            RangeTerm::Shift(self.shift)
+            RangeTerm::Shift(flat.shift)
         }
     }
+}
 
-    fn flat(entry: RangeTerm) -> FlatTerm {
-        match entry {
+impl From<RangeTerm> for FlatTerm {
+    ghost from_gives = { λ t r. r ≡ flat_term t };
+
+    fn from(term: RangeTerm) -> FlatTerm {
+        match term {
             RangeTerm::Constant(constant) => FlatTerm {
                 tag: 0,
                 constant,
@@ -131,23 +115,12 @@ impl Flat for FlatTerm {
     }
 }
 
-// The entries that flat ones stand for.
-pub fn entries<F: Flat + Copy>(heap: Global, flat: &[F]) -> Result<Vec<F::Entry>, AllocError>
-    ensures { IfOk result (λ v. v.items ≡ map F.meaning flat.now) }
-{
-    let mut list = Vec::new(heap);
-    for item in flat {
-        list.push(item.entry())?;
-    }
-    Ok(list)
-}
-
 // Writes entries to the front of a list of flat ones that has room for them.
-pub fn spread<F: Flat + Copy>(entries: &[F::Entry], list: &mut [F])
+pub fn spread<E: Copy, F: From<E> + Copy>(entries: &[E], list: &mut [F])
     requires { length entries.now ≤ length list.old }
-    ensures { list.new ≡ map F.shape entries.now ++ drop (length entries.now) list.old }
+    ensures { (f : E → F) → ((e : E) (r : F) → F.from_gives e r → r ≡ f e) → list.new ≡ map f entries.now ++ drop (length entries.now) list.old }
 {
-    for i in 0..entries.len() {
-        list[i] = F::flat(entries[i]);
+    for (i, entry) in entries.iter().enumerate() {
+        list[i] = F::from(*entry);
     }
 }

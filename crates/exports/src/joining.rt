@@ -8,7 +8,7 @@ ghost use Rattle.exports.specs.Joins.{Composed, has_room_lem, join_answer_lem, b
 ghost use Rattle.exports.specs.Answers.{answer};
 ghost use Rattle.exports.specs.Flats.{flat_state, flat_rule, flat_term};
 
-use crate::answer::{Answer, answer_of, refused};
+use crate::answer::{Answer, Kind, NO_MEMORY, answer_of, refused};
 use crate::flat::{FlatRule, FlatState, FlatTerm, spread};
 use crate::owned::Owned;
 use join::join;
@@ -133,9 +133,9 @@ fn join_sizes(
     let (p, q, n) = (table.states.len(), table.rules.len(), table.outputs.len());
     if p <= states.len() && q <= rules.len() && n <= outputs.len() {
         write_table(table, states, rules, outputs);
-        answer_of(0, p, q, n)
+        answer_of(Kind::Done, p, q, n)
     } else {
-        answer_of(5, p, q, n)
+        answer_of(Kind::TooShort, p, q, n)
     }
 }
 
@@ -151,9 +151,9 @@ pub fn join_answer(
 {
     match outcome {
         Ok(table) => join_sizes(&table, states, rules, outputs),
-        Err(JoinFault::First(fault)) => refused(2, fault.code()),
-        Err(JoinFault::Second(fault)) => refused(4, fault.code()),
-        Err(JoinFault::TooLarge) => answer_of(1, 0, 0, 0),
-        Err(JoinFault::NoMemory) => answer_of(3, 0, 0, 0),
+        Err(JoinFault::First(fault)) => refused(Kind::Refused, fault.code()),
+        Err(JoinFault::Second(fault)) => refused(Kind::SecondRefused, fault.code()),
+        Err(JoinFault::TooLarge) => answer_of(Kind::Otherwise, 0, 0, 0),
+        Err(JoinFault::NoMemory) => NO_MEMORY,
     }
 }

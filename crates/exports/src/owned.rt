@@ -4,7 +4,7 @@ ghost use Rattle.table.specs.Table.{table_of};
 ghost use Rattle.exports.specs.Flats.{flat_table};
 ghost use Rattle.exports.specs.Tables.{table_in};
 
-use crate::flat::{FlatRule, FlatState, FlatTerm, entries};
+use crate::flat::{FlatRule, FlatState, FlatTerm};
 use ranges::{Bytes, Range, RangeTerm};
 use std::alloc::{AllocError, Global};
 use table::{Draft, Rule, State};
@@ -26,9 +26,12 @@ pub fn read(
     ensures { IfOk result (λ t. table_in t ≡ flat_table states.now rules.now outputs.now) }
 {
     Ok(Owned {
-        states: entries(heap, states)?,
-        rules: entries(heap, rules)?,
-        outputs: entries(heap, outputs)?,
+        states: states.iter().map(|flat| State::from(*flat)).collect(heap)?,
+        rules: rules.iter().map(|flat| Rule::from(*flat)).collect(heap)?,
+        outputs: outputs
+            .iter()
+            .map(|flat| RangeTerm::from(*flat))
+            .collect(heap)?,
     })
 }
 

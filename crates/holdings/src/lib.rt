@@ -4,6 +4,8 @@
 pub mod append;
 pub mod memory;
 pub mod open;
+pub mod reading;
 pub mod views;
 
 pub use memory::{Entry, Head, Shelf};
+pub use reading::Readable;

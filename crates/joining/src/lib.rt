@@ -13,17 +13,17 @@ ghost use Rattle.joining.specs.Fronts.{front_of_lem};
 
 use alphabet::Alphabet;
 use answers::Fault;
-use holdings::Shelf;
+use holdings::{Readable, Shelf};
 use join::{Sizes, join as compose};
 use join_pairs::Pair;
 use join_ways::TooLarge;
 use placing::place::place;
 use steps::Step;
-use table::{Draft, Rule, State};
+use table::{Draft, Filter, Rule, State};
 
 // Writes the joined filter of the holdings behind i and j others to the front of three lists.
 fn compose_views<A: Alphabet>(
-    shelf: &Shelf<'_, A>,
+    shelf: &Readable<'_, '_, A>,
     i: usize,
     j: usize,
     states: &mut [State],
@@ -31,13 +31,12 @@ fn compose_views<A: Alphabet>(
     outputs: &mut [A::Term],
     pairs: &mut [Pair],
 ) -> Result<Sizes, TooLarge>
-    requires readable { Readable A.model (memory_of shelf.now) }
-    requires first { i < shelf.now.head.holdings }
-    requires second { j < shelf.now.head.holdings }
-    ensures { Answers (joined A.model (holding (memory_of shelf.now) i) (holding (memory_of shelf.now) j)) (length pairs.old) states.old states.new rules.old rules.new outputs.old outputs.new result }
+    requires first { i < shelf.now.shelf.now.head.holdings }
+    requires second { j < shelf.now.shelf.now.head.holdings }
+    ensures { Answers (joined A.model (holding (memory_of shelf.now.shelf.now) i) (holding (memory_of shelf.now.shelf.now) j)) (length pairs.old) states.old states.new rules.old rules.new outputs.old outputs.new result }
 {
-    let first = shelf.view(i);
-    let second = shelf.view(j);
+    let first = shelf.filter(i);
+    let second = shelf.filter(j);
     compose(&first, &second, states, rules, outputs, pairs)
 }
 
@@ -83,8 +82,9 @@ pub fn place_joined<A: Alphabet>(
     ensures { Does A.model (scratch_of (length steps.old) (length symbols.old)) (memory_of shelf.old) (Joining first second (lists_of (length states.old) (length rules.old) (length outputs.old) (length pairs.old))) result (memory_of shelf.new) }
 {
     let (i, j) = (first - 1, second - 1);
+    let readable = Readable { shelf: &*shelf };
     let Ok(sizes) = compose_views(
-        &*shelf,
+        &readable,
         i,
         j,
         &mut *states,
@@ -95,5 +95,6 @@ pub fn place_joined<A: Alphabet>(
         return Err(Fault::TooLarge);
     };
     let draft = front_of(&*states, &*rules, &*outputs, sizes);
-    place(shelf, &draft, steps, symbols)
+    let filter = Filter { draft };
+    place(shelf, &filter, steps, symbols)
 }

@@ -41,6 +41,7 @@ pub(crate) fn body_at(file: &[u8], i: usize) -> usize
     ensures place { result ≡ body_at file.now i }
     ensures bound { result ≤ 98 + i * 1441770 }
 {
+    // A chain is no plainer: its closure would need the clauses of `counts_at`, and `sum` a bound.
     let mut place = 2 + file[1] as usize * 6;
     for j in 0..i {
         place += size_of(counts_at(file, j));

@@ -17,7 +17,7 @@ use Rattle.holdings.specs.Memory.{Memory, holding}
 use Rattle.shelf_law.specs.Holdings.{Has, numbered}
 use Rattle.shelf_law.specs.Calls.{Readable}
 use Rattle.shelf_law.specs.Transducing.{TransducesAt, transduced}
-use Rattle.holdings.proofs.Readable.{readable_holdings}
+use Rattle.holdings.proofs.ReadThrough.{readable_holdings}
 
 module _ {G T : Type 0} (m : Model G T) (laws : Lawful m) (M : Memory G T) (ok : Readable m M) (n i : ℕ) (has : Has M n) (at : n - 1 ≡ i) (within : i < M.head.holdings) (V : Table G T) (is : V ≡ holding M i) where
   same : V ≡ numbered M n

@@ -8,7 +8,7 @@ ghost use Rattle.shelf.specs.Lent.{lent};
 use crate::lent::Scratch;
 use alphabet::Alphabet;
 use answers::{Comparison, Fault};
-use holdings::Shelf;
+use holdings::{Readable, Shelf};
 use telling::distinguish;
 
 // Compares the holdings of two numbers: they are equivalent, or the earliest of the shortest texts that distinguish them
@@ -23,11 +23,11 @@ pub fn compare<A: Alphabet>(
     ensures compares { Compares A.model (lent scratch.entry) (memory_of shelf.now) first second witness.old result witness.new }
     ensures told { (h : List (Call _ _)) → Reached A.model h (memory_of shelf.now) → ToldApart A.model (memory_of shelf.now) }
 {
-    shelf.check()?;
+    let readable = Readable::new(shelf)?;
     let one = shelf.place(first)?;
     let other = shelf.place(second)?;
-    let left = shelf.view(one);
-    let right = shelf.view(other);
+    let left = readable.filter(one);
+    let right = readable.filter(other);
     let Scratch { steps, symbols } = scratch;
     distinguish(&left, &right, second, steps, symbols, witness)
 }

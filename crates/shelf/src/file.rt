@@ -11,7 +11,7 @@ use alphabet::Alphabet;
 use answers::Fault;
 use holdings::Shelf;
 use placing::place::place;
-use table::Draft;
+use table::{Draft, Filter};
 
 // Puts a filter behind the holdings and answers its number, unless the shelf cannot be read, the filter is unsound, the
 // scratch is too small against a holding, a holding is equivalent to it, or there is no room.
@@ -24,7 +24,7 @@ pub fn file<A: Alphabet>(
     ensures law { KeepsLaw A.model (call_of (Filing (table_of draft.now)) (lent scratch.entry) (memory_of shelf.old) result (memory_of shelf.new)) }
 {
     shelf.check()?;
-    draft.check()?;
+    let filter = Filter::new(*draft)?;
     let Scratch { steps, symbols } = scratch;
-    place(shelf, draft, steps, symbols)
+    place(shelf, &filter, steps, symbols)
 }

@@ -5,7 +5,7 @@ ghost use Rattle.shelf_law.specs.Transducing.{TransducesAt};
 use alphabet::Alphabet;
 use answers::Fault;
 use filter::{Outcome, transduce_sound};
-use holdings::Shelf;
+use holdings::{Readable, Shelf};
 
 // Transduces a text by the holding of a number, and answers the state reached and how many symbols stand at the front of
 // the output, or where the text is rejected.
@@ -17,9 +17,9 @@ pub fn transduce<A: Alphabet>(
 ) -> Result<Outcome, Fault>
     ensures { TransducesAt A.model (memory_of shelf.now) number text.now output.old result output.new }
 {
-    shelf.check()?;
+    let readable = Readable::new(shelf)?;
     let place = shelf.place(number)?;
-    let view = shelf.view(place);
-    let outcome = transduce_sound(&view, text, output)?;
+    let filter = readable.filter(place);
+    let outcome = transduce_sound(&filter, text, output)?;
     Ok(outcome)
 }

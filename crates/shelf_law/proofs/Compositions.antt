@@ -20,7 +20,7 @@ use Rattle.shelf_law.specs.Scratch.{Scratch, Lists}
 use Rattle.shelf_law.specs.Placing.{Placing, short_scratch, double, full, held}
 use Rattle.shelf_law.specs.Calls.{Request, Joining, Readable, joined_at, Does, unreadable, unsound, no_first, no_second, too_large, files, joins}
 use Rattle.shelf_law.specs.Composition.{Composition, JoinedUnder}
-use Rattle.holdings.proofs.Readable.{readable_fits, readable_sound}
+use Rattle.holdings.proofs.ReadThrough.{readable_fits, readable_sound}
 
 module _ {G T : Type 0} (m : Model G T) (M : Memory G T) where
   -- the check of a shelf finds no doubles

@@ -27,7 +27,7 @@ use Rattle.shelf_law.specs.Comparing.{Compared, Compares, Told, ToldApart}
 use Rattle.shelf_law.specs.History.{Call, call_of, Reached, opening, calling}
 use Rattle.shelf_law.specs.Law.{FilterOf, ScratchFor, Right, Represented, Kept, Law, KeepsLaw}
 use Rattle.holdings.proofs.Equivalences.{equivalent_refl, equivalent_sym, equivalent_trans}
-use Rattle.holdings.proofs.Readable.{readable_fits, readable_sound, opened_readable, appended_readable}
+use Rattle.holdings.proofs.ReadThrough.{readable_fits, readable_sound, opened_readable, appended_readable}
 use Rattle.shelf_law.proofs.Placings.{enough_long}
 use Rattle.shelf_law.proofs.Limits.{sound_limited}
 

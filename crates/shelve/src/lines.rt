@@ -1,53 +1,70 @@
 // The lines that are printed: one for each body, then one for each pair of holdings.
-use marks::letter;
+use codec::{GuardRecord, Record, Stored};
+use marks::{MarkSet, MarkTerm, Marks, letter};
+use ranges::{Bytes, CodePoints, Range, RangeTerm};
 use shelving::{Shelved, Verdict};
 use std::alloc::{AllocError, Global};
 
-// How symbols are printed: in two or six hexadecimal digits, or as the characters of marks.
-#[derive(Clone, Copy)]
-pub enum Style {
-    Hex2,
-    Hex6,
-    Letters,
+// An alphabet whose stored shelves are filed and printed.
+pub trait Printed: Stored
+where
+    Self::Guard: GuardRecord,
+    Self::Term: Record,
+{
+    // A guard and a term to fill lists with before a file is decoded into them.
+    fn spare() -> (Self::Guard, Self::Term);
+
+    // Prints a symbol.
+    fn push_symbol(line: &mut String, symbol: u32) -> Result<(), AllocError>;
 }
 
-fn digit(value: u32) -> char {
-    match value {
-        0..=9 => (b'0' + value as u8) as char,
-        10..=15 => (b'A' + (value - 10) as u8) as char,
-        _ => '?',
+const SPARE_RANGE: (Range, RangeTerm) = (Range { low: 0, high: 0 }, RangeTerm::Shift(0));
+
+// Two hexadecimal digits.
+impl Printed for Bytes {
+    fn spare() -> (Range, RangeTerm) {
+        SPARE_RANGE
+    }
+
+    fn push_symbol(line: &mut String, symbol: u32) -> Result<(), AllocError> {
+        write!(line, "{symbol:02X}")
     }
 }
 
-// The last two hexadecimal digits of a number.
-fn push_pair(line: &mut String, number: u32) -> Result<(), AllocError> {
-    line.push(digit(number / 16 % 16))?;
-    line.push(digit(number % 16))
+// Six hexadecimal digits.
+impl Printed for CodePoints {
+    fn spare() -> (Range, RangeTerm) {
+        SPARE_RANGE
+    }
+
+    fn push_symbol(line: &mut String, symbol: u32) -> Result<(), AllocError> {
+        write!(line, "{symbol:06X}")
+    }
 }
 
-fn push_symbol(line: &mut String, style: Style, symbol: u32) -> Result<(), AllocError> {
-    match style {
-        Style::Hex2 => push_pair(line, symbol),
-        Style::Hex6 => {
-            push_pair(line, symbol / 65536)?;
-            push_pair(line, symbol / 256)?;
-            push_pair(line, symbol)
-        }
-        Style::Letters => match letter(symbol) {
-            Some(byte) => line.push(byte as char),
-            None => line.push('?'),
-        },
+// The characters of marks.
+impl Printed for Marks {
+    fn spare() -> (MarkSet, MarkTerm) {
+        (MarkSet { bits: 1 }, MarkTerm::Constant(0))
+    }
+
+    fn push_symbol(line: &mut String, symbol: u32) -> Result<(), AllocError> {
+        line.push(letter(symbol).unwrap_or(b'?') as char)
     }
 }
 
 // A text: its symbols one behind another, or a dash where it is empty.
-fn shown(heap: Global, style: Style, text: &[u32]) -> Result<String, AllocError> {
+fn shown<A: Printed>(heap: Global, text: &[u32]) -> Result<String, AllocError>
+where
+    A::Guard: GuardRecord,
+    A::Term: Record,
+{
     if text.is_empty() {
         return String::from_str(heap, "-");
     }
     let mut line = String::new(heap);
     for symbol in text {
-        push_symbol(&mut line, style, *symbol)?;
+        A::push_symbol(&mut line, *symbol)?;
     }
     Ok(line)
 }
@@ -66,14 +83,18 @@ fn print_verdict(rt: &HostRuntime, body: usize, verdict: Verdict) -> anyhow::Res
 }
 
 // Prints all lines.
-pub fn print_all(rt: &HostRuntime, style: Style, shelved: &Shelved) -> anyhow::Result<()> {
+pub fn print_all<A: Printed>(rt: &HostRuntime, shelved: &Shelved) -> anyhow::Result<()>
+where
+    A::Guard: GuardRecord,
+    A::Term: Record,
+{
     for (i, verdict) in shelved.verdicts.as_slice().iter().enumerate() {
         print_verdict(rt, i + 1, *verdict)?;
     }
     for pair in shelved.pairs.as_slice() {
         let first = pair.first;
         let second = pair.second;
-        let text = shown(rt.alloc(), style, pair.text.as_slice())?;
+        let text = shown::<A>(rt.alloc(), pair.text.as_slice())?;
         println!(rt; "{first} {second} {text}")?;
     }
     Ok(())

@@ -6,16 +6,17 @@
 mod lines;
 
 use anyhow::anyhow;
-use codec::{GuardRecord, Record, Stored};
-use lines::{Style, print_all};
-use marks::{MarkSet, MarkTerm, Marks};
-use ranges::{Bytes, CodePoints, Range, RangeTerm};
-use shelf::open::open;
+use codec::{GuardRecord, Record};
 use holdings::{Entry, Shelf};
+use lines::{Printed, print_all};
+use marks::Marks;
+use ranges::{Bytes, CodePoints};
+use shelf::open::open;
 use shelve_input::{Kind, kind_of};
 use shelving::ShelveFault;
 use shelving::shelve::shelve;
 use std::alloc::{AllocError, Global};
+use std::fmt::Display;
 use std::io::Read;
 use stored::decode;
 use table::{Rule, State};
@@ -34,89 +35,76 @@ const STEPS: usize = 512;
 
 const SYMBOLS: usize = 12288;
 
-// A rule with this guard, to fill a list with.
-fn spare<G: Copy>(guard: G) -> Rule<G> {
-    Rule {
-        state: 0,
-        next: 0,
-        outputs: 0,
-        guard,
+// Ledger and lists for a file.
+#[derive(Drop)]
+struct Lists<G: Copy, T: Copy> {
+    ledger: Vec<Entry>,
+    states: Vec<State>,
+    rules: Vec<Rule<G>>,
+    outputs: Vec<T>,
+}
+
+impl<G: Copy, T: Copy> Lists<G, T> {
+    // Lists as long as a file can need, filled with this guard and term.
+    fn new(heap: Global, guard: G, term: T) -> Result<Lists<G, T>, AllocError> {
+        let entry = Entry {
+            states: 0,
+            rules: 0,
+            outputs: 0,
+        };
+        let rule = Rule {
+            state: 0,
+            next: 0,
+            outputs: 0,
+            guard,
+        };
+        Ok(Lists {
+            ledger: vec![in heap; entry; MOST_HOLDINGS]?,
+            states: vec![in heap; State { mark: 0, finals: 0 }; MOST_STATES]?,
+            rules: vec![in heap; rule; MOST_RULES]?,
+            outputs: vec![in heap; term; MOST_OUTPUTS]?,
+        })
     }
 }
 
-// A list of equal items.
-fn filled<T: Copy>(heap: Global, item: T, count: usize) -> Result<Vec<T>, AllocError> {
-    let mut list = Vec::new(heap);
-    for _ in 0..count {
-        list.push(item)?;
-    }
-    Ok(list)
-}
-
-// Files the bodies of a file of an alphabet, and prints the lines. The guard and the term only fill lists.
-fn run<A: Stored>(
-    rt: &HostRuntime,
-    file: &[u8],
-    guard: A::Guard,
-    term: A::Term,
-    style: Style,
-) -> anyhow::Result<()>
+// Files the bodies of a file of an alphabet, and prints the lines.
+fn run<A: Printed>(rt: &HostRuntime, file: &[u8]) -> anyhow::Result<()>
 where
     A::Guard: GuardRecord,
     A::Term: Record,
 {
     let heap = rt.alloc();
-    let entry = Entry {
-        states: 0,
-        rules: 0,
-        outputs: 0,
-    };
-    let mut ledger = filled(heap, entry, MOST_HOLDINGS)?;
-    let mut states = filled(heap, State { mark: 0, finals: 0 }, MOST_STATES)?;
-    let mut rules = filled(heap, spare(guard), MOST_RULES)?;
-    let mut outputs = filled(heap, term, MOST_OUTPUTS)?;
+    let (guard, term) = A::spare();
+    let mut lists = Lists::new(heap, guard, term)?;
     let mut bodies: Shelf<'_, A> = open(
-        ledger.as_mut_slice(),
-        states.as_mut_slice(),
-        rules.as_mut_slice(),
-        outputs.as_mut_slice(),
+        lists.ledger.as_mut_slice(),
+        lists.states.as_mut_slice(),
+        lists.rules.as_mut_slice(),
+        lists.outputs.as_mut_slice(),
     );
     if let Err(fault) = decode(file, &mut bodies) {
-        let code = fault.code();
-        return refuse(rt, code.number, code.place);
+        return refuse(rt, &fault.code());
     }
     match shelve(heap, &bodies, STEPS, SYMBOLS) {
-        Ok(shelved) => print_all(rt, style, &shelved),
+        Ok(shelved) => print_all::<A>(rt, &shelved),
         Err(ShelveFault::Misfit) => Err(anyhow!("the file does not fit the lists")),
         Err(ShelveFault::NoMemory) => Err(anyhow!("not enough memory")),
     }
 }
 
-// Says that the file is refused.
-fn refuse(rt: &HostRuntime, number: u8, place: usize) -> anyhow::Result<()> {
-    println!(rt; "file refused {number} {place}")?;
+// Says that the file is refused, by the number and the place of its fault.
+fn refuse(rt: &HostRuntime, code: &impl Display) -> anyhow::Result<()> {
+    println!(rt; "file refused {code}")?;
     Ok(())
 }
 
 // Reads a file by the alphabet that its first byte names.
 fn read(rt: &HostRuntime, file: &[u8]) -> anyhow::Result<()> {
-    let range = Range { low: 0, high: 0 };
     match kind_of(file) {
-        Ok(Kind::Bytes) => run::<Bytes>(rt, file, range, RangeTerm::Shift(0), Style::Hex2),
-        Ok(Kind::CodePoints) => {
-            run::<CodePoints>(rt, file, range, RangeTerm::Shift(0), Style::Hex6)
-        }
-        Ok(Kind::Marks) => run::<Marks>(
-            rt,
-            file,
-            MarkSet { bits: 1 },
-            MarkTerm::Constant(0),
-            Style::Letters,
-        ),
-        Err(fault) => {
-            let code = fault.code();
-            refuse(rt, code.number, code.place)
-        }
+        Ok(Kind::Bytes) => run::<Bytes>(rt, file),
+        Ok(Kind::CodePoints) => run::<CodePoints>(rt, file),
+        Ok(Kind::Marks) => run::<Marks>(rt, file),
+        Err(fault) => refuse(rt, &fault.code()),
     }
 }
 

@@ -3,7 +3,7 @@ use alphabet::Alphabet;
 use anyhow::anyhow;
 use codec::{GuardRecord, Record, Stored};
 use holdings::{Entry, Head, Shelf};
-use std::alloc::{AllocError, Global};
+use std::alloc::Global;
 use stored::{decode, encode};
 use table::{Draft, Rule, State};
 
@@ -21,10 +21,7 @@ pub struct Builder<G: Copy, T: Copy> {
 
 // A length as an entry counts it.
 fn counted(length: usize) -> anyhow::Result<u16> {
-    match u16::try_from(length) {
-        Ok(count) => Ok(count),
-        Err(_) => Err(anyhow!("a table is too large")),
-    }
+    u16::try_from(length).map_err(|_| anyhow!("a table is too large"))
 }
 
 impl<G: Copy, T: Copy> Builder<G, T> {
@@ -102,18 +99,4 @@ where
         return Err(anyhow!("an example does not stay what it was"));
     }
     Ok(bytes)
-}
-
-fn digit(value: u8) -> char {
-    match value {
-        0..=9 => (b'0' + value) as char,
-        10..=15 => (b'A' + (value - 10)) as char,
-        _ => '?',
-    }
-}
-
-// Two hexadecimal digits.
-pub fn push_hex(line: &mut String, byte: u8) -> Result<(), AllocError> {
-    line.push(digit(byte / 16))?;
-    line.push(digit(byte % 16))
 }

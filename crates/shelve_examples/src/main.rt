@@ -85,7 +85,7 @@ fn print_all(rt: &HostRuntime) -> anyhow::Result<()> {
         for row in bytes.as_slice().chunks(32) {
             let mut line = String::new(rt.alloc());
             for byte in row {
-                builder::push_hex(&mut line, *byte)?;
+                write!(line, "{byte:02X}")?;
             }
             println!(rt; "  {line}")?;
         }
@@ -94,7 +94,7 @@ fn print_all(rt: &HostRuntime) -> anyhow::Result<()> {
 }
 
 fn run(rt: &HostRuntime) -> anyhow::Result<()> {
-    for name in env::args(rt)?.skip(1) {
+    if let Some(name) = env::args(rt)?.nth(1) {
         let bytes = example(rt.alloc(), name.as_str())?;
         rt.stdout().write_all(bytes.as_slice())?;
         return Ok(());

@@ -16,7 +16,7 @@ use Rattle.shelf_law.specs.Scratch.{Scratch, Enough}
 use Rattle.shelf_law.specs.Placing.{Placing, short_scratch, double, full, held}
 use Rattle.shelf_law.specs.Calls.{Request, Filing, Readable, Does, unreadable, unsound, no_first, no_second, too_large, files, joins}
 use Rattle.shelf_law.specs.History.{Call, call_of, Reached, calling}
-use Rattle.holdings.proofs.Readable.{readable_fits}
+use Rattle.holdings.proofs.ReadThrough.{readable_fits}
 use Rattle.shelf_law.proofs.Laws.{law_holds_lem}
 use Rattle.shelving.specs.declared.report.Verdict.{Verdict}
 use Rattle.shelving.specs.Runs.{Run, begun, filed}

@@ -13,17 +13,9 @@ ghost use Rattle.stored.specs.Bodies.{body_table, Full, tables_of_file};
 
 use alphabet::Alphabet;
 use codec::{GuardRecord, Record, Stored, fill};
-use reader::{Body, Reader};
 use holdings::{Head, Shelf};
+use reader::{Body, Reader};
 use stored_laws::StoredFault;
-
-// The head of a shelf with no holdings.
-const EMPTY: Head = Head {
-    holdings: 0,
-    states: 0,
-    rules: 0,
-    outputs: 0,
-};
 
 // What the bodies of a file count together.
 fn totals(reader: &Reader<'_>) -> Head
@@ -33,7 +25,7 @@ fn totals(reader: &Reader<'_>) -> Head
     ensures rules { result.rules ≡ rules_of (contents reader.now.file.now) }
     ensures outputs { result.outputs ≡ outputs_of_lem (contents reader.now.file.now) }
 {
-    let mut head = EMPTY;
+    let mut head = Head::default();
     for body in reader.bodies() {
         head.holdings += 1;
         head.states += body.counts.states as usize;
@@ -110,7 +102,7 @@ where
     requires five { A.Term.Record.code.width ≡ 5 }
     ensures { memory_of shelf.new ≡ shelved (memory_of shelf.old) (tables_of_file A.Guard.Record.code A.Term.Record.code reader.now.file.now) }
 {
-    shelf.head = EMPTY;
+    shelf.head = Head::default();
     for body in reader.bodies() {
         append_body(shelf, body);
     }

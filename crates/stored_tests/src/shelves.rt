@@ -1,7 +1,7 @@
 // Decoding onto short lists, and writing shelves that cannot be read.
 use answers::Fault;
-use ranges::{Bytes, Range, RangeTerm};
 use holdings::{Entry, Shelf};
+use ranges::{Bytes, Range, RangeTerm};
 use std::test::Fail;
 use stored::{StoredFault, decode, encode};
 use table::{Rule, State};

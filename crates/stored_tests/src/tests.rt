@@ -1,7 +1,7 @@
 // What files are refused for, and what decoding and writing leave.
 use crate::files::{COPY, TURN, fault_of_bytes, fault_of_marks};
-use ranges::{Bytes, Range, RangeTerm};
 use holdings::{Entry, Shelf};
+use ranges::{Bytes, Range, RangeTerm};
 use stored::{StoredFault, decode, encode};
 use table::{Rule, State};
 

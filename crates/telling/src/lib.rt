@@ -3,7 +3,6 @@
 
 ghost use Rattle.std.specs.Prelude.{length};
 ghost use Rattle.table.specs.Table.{table_of};
-ghost use Rattle.table.specs.Sound.{Sound};
 ghost use Rattle.shelf_law.specs.Scratch.{scratch_of};
 ghost use Rattle.shelf_law.specs.Comparing.{Compared};
 
@@ -14,20 +13,18 @@ use judging::frame_of;
 use placing::scratch::is_short;
 use queue::Queue;
 use steps::{Step, steps_needed, write_text};
-use table::Draft;
+use table::Filter;
 
 // Compares two sound filters, the second of which is the holding of this number.
 pub fn distinguish<A: Alphabet>(
-    left: &Draft<'_, A>,
-    right: &Draft<'_, A>,
+    left: &Filter<'_, A>,
+    right: &Filter<'_, A>,
     number: usize,
     steps: &mut [Step],
     symbols: &mut [u32],
     witness: &mut [u32],
 ) -> Result<Comparison, Fault>
-    requires left { Sound A.model (table_of left.now) }
-    requires right { Sound A.model (table_of right.now) }
-    ensures { Compared A.model (scratch_of (length steps.old) (length symbols.old)) (table_of left.now) (table_of right.now) number witness.old result witness.new }
+    ensures { Compared A.model (scratch_of (length steps.old) (length symbols.old)) (table_of left.now.draft) (table_of right.now.draft) number witness.old result witness.new }
 {
     if is_short(left, right, steps.len(), symbols.len()) {
         return Err(Fault::ShortScratch(number));

@@ -1,20 +1,12 @@
-use Rattle.std.proofs.Common.{sym, subst}
-use Rattle.table.specs.Sound.{Sound}
-use Rattle.holdings.specs.Memory.{memory_of}
-use Rattle.holdings.proofs.Readable.{readable_fits, readable_sound}
+use Rattle.std.proofs.Common.{length, ap, ◌∙◌, subst}
+use Rattle.holdings.specs.Memory.{memory_of, holding}
+use Rattle.join_laws.specs.Joined.{joined}
+use Rattle.join.specs.Filled.{Answers}
 use Rattle.joining.proofs.compose_views.Goals as goal
 
-pub view-first-requires : goal.view-first-requires
-view-first-requires g c = record { fits = readable_fits g.A.Alphabet.model (memory_of c.args.shelf.now) c.requires.readable; within = c.requires.first }
-
-pub view-second-requires : goal.view-second-requires
-view-second-requires g c = record { fits = readable_fits g.A.Alphabet.model (memory_of c.args.shelf.now) c.requires.readable; within = c.requires.second }
-
-pub join-requires : goal.join-requires
-join-requires g c =
+pub returns : goal.returns
+returns g c =
     let m = g.A.Alphabet.model in
-    let M = memory_of c.args.shelf.now in
-    record {
-      first = subst (Sound m) (sym c.view-first.ensures) (readable_sound m g.A.Alphabet.laws M c.requires.readable c.args.i c.requires.first);
-      second = subst (Sound m) (sym c.view-second.ensures) (readable_sound m g.A.Alphabet.laws M c.requires.readable c.args.j c.requires.second);
-    }
+    let M = memory_of c.args.shelf.now.shelf.now in
+    let J = ap (λ X. joined m X (table_of c.filter-second.result.draft)) c.filter-first.ensures ∙ ap (joined m (holding M c.args.i)) c.filter-second.ensures in
+    subst (λ X. Answers X (length c.args.pairs.now) c.args.states.now c.join.new.states c.args.rules.now c.join.new.rules c.args.outputs.now c.join.new.outputs c.join.result) J c.join.ensures.joins

@@ -1,5 +1,6 @@
-use Rattle.std.proofs.Common.{length, sym, ◌∙◌, subst}
-use Rattle.table.specs.Sound.{Sound}
+use Rattle.std.proofs.Common.{length, ap, ◌∙◌, subst}
+use Rattle.table.specs.Check.{checked}
+use Rattle.table.proofs.Soundness.{checked_from_sound}
 use Rattle.holdings.specs.Memory.{memory_of}
 use Rattle.shelf_law.specs.Scratch.{scratch_of, lists_of}
 use Rattle.shelf_law.specs.Placing.{Placing}
@@ -19,17 +20,14 @@ returns-in_default g c =
     let n = length c.args.pairs.now in
     too_large c.args.first c.args.second (lists_of (length S) (length R) (length O) n) c.requires.readable c.requires.first c.requires.second (λ limited h. c.in_default.ensures (roomy J n S R O limited h))
 
-pub place-requires : goal.place-requires
-place-requires g c =
+pub invariant_of-filter : goal.invariant_of-filter
+invariant_of-filter g c =
     let m = g.A.Alphabet.model in
     let M = memory_of c.args.shelf.now in
     let J = joined_at m M c.args.first c.args.second in
     let b = c.in-Ok.ensures in
     let is = c.front_of-draft.ensures ∙ front_joined J (length c.args.pairs.now) c.args.states.now c.args.rules.now c.args.outputs.now c.in-Ok.sizes c.compose_views.new.states c.compose_views.new.rules c.compose_views.new.outputs b in
-    record {
-      readable = c.requires.readable;
-      sound = subst (Sound m) (sym is) (joined_sound m g.A.Alphabet.laws (scratch_of 0 0) M c.requires.readable c.args.first c.args.second c.requires.first c.requires.second b.roomy.limited);
-    }
+    record { sound = ap (checked m) is ∙ checked_from_sound m g.A.Alphabet.laws J (joined_sound m g.A.Alphabet.laws (scratch_of 0 0) M c.requires.readable c.args.first c.args.second c.requires.first c.requires.second b.roomy.limited) }
 
 pub returns : goal.returns
 returns g c =

@@ -17,8 +17,8 @@ returns-then-is_short g c = short_scratch (c.is_short.ensures.0 c.if-is_short.tr
 pub returns-then-witness-needed : goal.returns-then-witness-needed
 returns-then-witness-needed g c =
     let m = g.A.Alphabet.model in
-    let F = table_of c.args.left.now in
-    let H = table_of c.args.right.now in
+    let F = table_of c.args.left.now.draft in
+    let H = table_of c.args.right.now.draft in
     let S = scratch_of (length c.args.steps.now) (length c.args.symbols.now) in
     let w = c.args.witness.now in
     let f = c.frame_of-frame.ensures.framed in
@@ -29,8 +29,8 @@ returns-then-witness-needed g c =
 pub returns-in_default : goal.returns-in_default
 returns-in_default g c =
     let m = g.A.Alphabet.model in
-    let F = table_of c.args.left.now in
-    let H = table_of c.args.right.now in
+    let F = table_of c.args.left.now.draft in
+    let H = table_of c.args.right.now.draft in
     let S = scratch_of (length c.args.steps.now) (length c.args.symbols.now) in
     let enough = long_enough m S F H c.is_short.result c.is_short.ensures c.if-is_short.false in
     let short = c.in_default.ensures.answer in
@@ -40,8 +40,8 @@ returns-in_default g c =
 pub returns-in_default-answer : goal.returns-in_default-answer
 returns-in_default-answer g c =
     let m = g.A.Alphabet.model in
-    let F = table_of c.args.left.now in
-    let H = table_of c.args.right.now in
+    let F = table_of c.args.left.now.draft in
+    let H = table_of c.args.right.now.draft in
     let S = scratch_of (length c.args.steps.now) (length c.args.symbols.now) in
     let L = entries c.compare.new.queue in
     let f = c.frame_of-frame.ensures.framed in
@@ -52,8 +52,8 @@ returns-in_default-answer g c =
 pub returns : goal.returns
 returns g c =
     let m = g.A.Alphabet.model in
-    let F = table_of c.args.left.now in
-    let H = table_of c.args.right.now in
+    let F = table_of c.args.left.now.draft in
+    let H = table_of c.args.right.now.draft in
     let S = scratch_of (length c.args.steps.now) (length c.args.symbols.now) in
     let L = entries c.compare.new.queue in
     let k = c.in-Some.step in
@@ -67,8 +67,8 @@ returns g c =
 pub returns-in_default-write_text : goal.returns-in_default-write_text
 returns-in_default-write_text g c =
     let m = g.A.Alphabet.model in
-    let F = table_of c.args.left.now in
-    let H = table_of c.args.right.now in
+    let F = table_of c.args.left.now.draft in
+    let H = table_of c.args.right.now.draft in
     let L = entries c.compare.new.queue in
     let f = c.frame_of-frame.ensures.framed in
     let needed : c.steps_needed-needed.result ≡ steps_for m F H = c.steps_needed-needed.ensures ∙ ap (λ p. steps_needed_lem p c.frame_of-frame.result.right) f.left ∙ ap (steps_needed_lem (length F.states)) f.right in

@@ -7,10 +7,10 @@ use Rattle.exports.specs.Flats.{flat_table}
 use Rattle.exports.proofs.calls.cutamllay_compare.Goals as goal
 
 pub returns-in_default : goal.returns-in_default
-returns-in_default c = record { result = Err NoMemory; is = c.answer_of.ensures; witness = refl; compares = tt }
+returns-in_default c = record { result = Err NoMemory; is = refl; witness = refl; compares = tt }
 
 pub returns-in_default-read : goal.returns-in_default-read
-returns-in_default-read c = record { result = Err NoMemory; is = c.answer_of-in_default-read.ensures; witness = refl; compares = tt }
+returns-in_default-read c = record { result = Err NoMemory; is = refl; witness = refl; compares = tt }
 
 pub returns : goal.returns
 returns c =

@@ -6,10 +6,10 @@ use Rattle.exports.specs.Flats.{flat_table}
 use Rattle.exports.proofs.calls.cutamllay_join.Goals as goal
 
 pub returns-in_default : goal.returns-in_default
-returns-in_default c = record { result = Err NoMemory; is = c.answer_of.ensures; lists = (refl, refl, refl); composed = tt }
+returns-in_default c = record { result = Err NoMemory; is = refl; lists = (refl, refl, refl); composed = tt }
 
 pub returns-in_default-read : goal.returns-in_default-read
-returns-in_default-read c = record { result = Err NoMemory; is = c.answer_of-in_default-read.ensures; lists = (refl, refl, refl); composed = tt }
+returns-in_default-read c = record { result = Err NoMemory; is = refl; lists = (refl, refl, refl); composed = tt }
 
 pub returns : goal.returns
 returns c =

@@ -4,37 +4,28 @@ use Rattle.table.specs.Sound.{Sound}
 use Rattle.filter.specs.Meaning.{Equivalent}
 use Rattle.holdings.specs.Memory.{memory_of}
 use Rattle.shelf_law.specs.Scratch.{scratch_of, Enough}
-use Rattle.holdings.proofs.Readable.{readable_fits, readable_sound}
+use Rattle.holdings.proofs.ReadThrough.{readable_fits, readable_sound}
 use Rattle.placing.proofs.Turns.{lowest_here, none_more, none_all}
 use Rattle.placing.proofs.doubles.first_double.Goals as goal
-
-pub view-view-requires : goal.view-view-requires
-view-view-requires g c =
-    record { fits = readable_fits g.A.Alphabet.model (memory_of c.args.shelf.now) c.requires.readable; within = c.loop-i-test.true }
 
 pub are_equivalent-requires : goal.are_equivalent-requires
 are_equivalent-requires g c =
     let m = g.A.Alphabet.model in
-    let M = memory_of c.args.shelf.now in
-    let F = table_of c.args.draft.now in
-    let all = subst (Enough m (scratch_of (length c.args.steps.now) (length c.args.symbols.now)) F) (sym c.view-view.ensures) (c.requires.enough c.loop-i.i c.loop-i-test.true) in
-    record {
-      left = c.requires.sound;
-      right = subst (Sound m) (sym c.view-view.ensures) (readable_sound m g.A.Alphabet.laws M c.requires.readable c.loop-i.i c.loop-i-test.true);
-      enough = (omega (arith, all.0), omega (arith, all.1));
-    }
+    let F = table_of c.args.filter.now.draft in
+    let all = subst (Enough m (scratch_of (length c.args.steps.now) (length c.args.symbols.now)) F) (sym c.filter-holding.ensures) (c.requires c.loop-i.i c.loop-i-test.true) in
+    (omega (arith, all.0), omega (arith, all.1))
 
 pub returns-then-are_equivalent : goal.returns-then-are_equivalent
 returns-then-are_equivalent g c =
-    let P = Equivalent g.A.Alphabet.model (table_of c.args.draft.now) in
-    lowest_here (memory_of c.args.shelf.now) P c.loop-i.i c.loop-i.invariant (table_of c.view-view.result) c.view-view.ensures c.are_equivalent.result c.are_equivalent.ensures c.loop-i-test.true c.if-are_equivalent.true
+    let P = Equivalent g.A.Alphabet.model (table_of c.args.filter.now.draft) in
+    lowest_here (memory_of c.args.shelf.now.shelf.now) P c.loop-i.i c.loop-i.invariant (table_of c.filter-holding.result.draft) c.filter-holding.ensures c.are_equivalent.result c.are_equivalent.ensures c.loop-i-test.true c.if-are_equivalent.true
 
 pub loop-i-preserved : goal.loop-i-preserved
 loop-i-preserved g c =
-    let P = Equivalent g.A.Alphabet.model (table_of c.args.draft.now) in
-    none_more (memory_of c.args.shelf.now) P c.loop-i.i c.loop-i.invariant (table_of c.view-view.result) c.view-view.ensures c.are_equivalent.result c.are_equivalent.ensures c.if-are_equivalent.false
+    let P = Equivalent g.A.Alphabet.model (table_of c.args.filter.now.draft) in
+    none_more (memory_of c.args.shelf.now.shelf.now) P c.loop-i.i c.loop-i.invariant (table_of c.filter-holding.result.draft) c.filter-holding.ensures c.are_equivalent.result c.are_equivalent.ensures c.if-are_equivalent.false
 
 pub returns : goal.returns
 returns g c =
-    let P = Equivalent g.A.Alphabet.model (table_of c.args.draft.now) in
-    none_all (memory_of c.args.shelf.now) P c.loop-i.i c.loop-i.invariant c.loop-i-test.false
+    let P = Equivalent g.A.Alphabet.model (table_of c.args.filter.now.draft) in
+    none_all (memory_of c.args.shelf.now.shelf.now) P c.loop-i.i c.loop-i.invariant c.loop-i-test.false

@@ -3,7 +3,7 @@ use Rattle.holdings.specs.Memory.{memory_of}
 use Rattle.holdings.proofs.Parts.{fitting}
 use Rattle.shelf_law.specs.Scratch.{scratch_of}
 use Rattle.shelf_law.proofs.Laws.{law_holds_lem}
-use Rattle.holdings.proofs.Readable.{readable_fits}
+use Rattle.holdings.proofs.ReadThrough.{readable_fits}
 use Rattle.shelving.proofs.Separating.{separable_at}
 use Rattle.shelving.proofs.Shelvings.{Led, run_led, led_separable}
 use Rattle.shelving.proofs.shelve.shelve_on.Goals as goal
