@@ -13,18 +13,6 @@ places xs from count h =
     let e : (from + count) - from ≡ count = omega arith in
     length-take-le ((from + count) - from) (drop from xs) (omega (arith, length-drop from xs)) ∙ e
 
-pub loop-place-init : goal.loop-place-init
-loop-place-init g c =
-    let z : 0 * g.R.Record.code.width ≡ 0 = omega arith in
-    (sym (ap (λ k. drop k c.args.bytes.now) z), refl)
-
-pub split_at-requires : goal.split_at-requires
-split_at-requires g c =
-    let w = g.R.Record.code.width in
-    let n = places c.args.list.now c.args.from c.args.count c.requires.room in
-    let e = ends c.loop-place.place-index c.args.count w (omega arith) in
-    omega (arith, ap length c.loop-place.invariant.0, length-drop (c.loop-place.place-index * w) c.args.bytes.now)
-
 pub loop-place-preserved : goal.loop-place-preserved
 loop-place-preserved g c =
     let code = g.R.Record.code in

@@ -3,37 +3,12 @@ use Rattle.codec_laws.specs.Lists.{wrong_from}
 use Rattle.codec.proofs.Turns.{ends, next_at, wrong_found, wrong_none}
 use Rattle.codec.proofs.runs.first_wrong.Goals as goal
 
-pub overflow_add-at : goal.overflow_add-at
-overflow_add-at g c =
-    let e = ends c.loop-i.i c.args.count g.R.Record.code.width c.loop-i-test.true in
-    let within : c.loop-i.at + c.width-width.result ≤ length c.args.file.now = omega arith in
-    search rules
-
-pub slice_bounds-wrong-end : goal.slice_bounds-wrong-end
-slice_bounds-wrong-end g c =
-    let e = ends c.loop-i.i c.args.count g.R.Record.code.width c.loop-i-test.true in
-    let within : c.loop-i.at + c.width-width.result ≤ length c.args.file.now = omega arith in
-    search rules
-
-pub overflow_add-result : goal.overflow_add-result
-overflow_add-result g c =
-    let e = ends c.loop-i.i c.args.count g.R.Record.code.width c.loop-i-test.true in
-    let p = g.met.R.Record.laws.inside _ c.in-Some.place (sym c.in-Some.ensures) in
-    let within : c.loop-i.at + c.in-Some.place < length c.args.file.now = omega arith in
-    search rules
-
 pub returns-in-Some : goal.returns-in-Some
 returns-in-Some g c =
     let at = c.loop-i.at in
     let size : (at + c.width-width.result) - at ≡ g.R.Record.code.width = omega (arith, c.width-width.ensures) in
     sym (wrong_found g.R.Record.code c.args.file.now at c.args.count c.loop-i.i _ c.loop-i-test.true size c.in-Some.place (sym c.in-Some.ensures))
     ∙ c.loop-i.invariant.1
-
-pub overflow_add-at-in-loop-i : goal.overflow_add-at-in-loop-i
-overflow_add-at-in-loop-i g c =
-    let e = ends c.loop-i.i c.args.count g.R.Record.code.width c.loop-i-test.true in
-    let within : c.loop-i.at + c.width-width.result ≤ length c.args.file.now = omega arith in
-    search rules
 
 pub loop-i-preserved : goal.loop-i-preserved
 loop-i-preserved g c =

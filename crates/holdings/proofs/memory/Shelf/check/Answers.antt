@@ -23,10 +23,3 @@ loop-i-preserved g c =
     let ok : fits M ≡ true = sym c.if-not-fits.ensures in
     let table = sym (c.in_default.ensures.first ∙ ap (checked m) c.view-view.ensures) in
     sym (holding_sound m M ok i c.loop-i-test.true (ap (map_err (Unsound (i + 1))) table)) ∙ c.loop-i.invariant
-
-pub returns : goal.returns
-returns g c =
-    let m = g.A.Alphabet.model in
-    let M = memory_of c.args.self.now in
-    let ok : fits M ≡ true = sym c.if-not-fits.ensures in
-    sym (all_checked m M ok c.loop-i.i c.loop-i-test.false) ∙ c.loop-i.invariant ∙ shelf_is m M ok

@@ -5,18 +5,6 @@ use Rattle.stored_laws.specs.Format.{then, none_wrong, bodies_at, file_size}
 use Rattle.reader.proofs.Stands.{end_is, rest_size, cut_short, left_over, by_outputs, is_whole}
 use Rattle.reader.proofs.body.Reader.open.Goals as goal
 
-pub returns-then-file-size : goal.returns-then-file-size
-returns-then-file-size g c =
-    let file = c.args.file.now in
-    let long : 2 ≤ length file = search rules in
-    let starts : bodies_at file ≤ length file = omega (arith, rest_size file) in
-    let size : c.body_at-size.result ≡ file_size file = c.body_at-size.ensures.place ∙ end_is file in
-    let alphabet : at file 0 ≡ g.A.Stored.number = omega arith in
-    record {
-      file = sym (ap (λ r. then r (Ok file)) (cut_short g.A.Term.Record.code file g.A.Stored.number (omega arith) alphabet c.if-count-gt-MOST_BODIES.false starts (omega arith)));
-      width = λ e. c.byte.ensures.term_width;
-    }
-
 pub returns-then-size-file : goal.returns-then-size-file
 returns-then-size-file g c =
     let file = c.args.file.now in
