@@ -138,20 +138,6 @@ module _ {G T : Type 0} (m : Model G T) (F : Table G T) where
               done = b ∙ ap (λ i. take i (put place vals out) ++ (vals ++ W.rest)) n;
             }
 
-    -- nothing is written yet
-    pub playing_start : (x : Step) (out : List ℕ) → x.parent < length L → Sits m F (text L x.parent) x.symbol (side_of h x)
-        → (side_of h x).total ≤ length out
-        → Playing (output_by m F (text L x.parent) x.symbol (side_of h x)) (side_of h x).total x out
-    playing_start x out above sits fits = record {
-      above = above;
-      sits = sits;
-      fits = fits;
-      inside = omega arith;
-      rest = [];
-      split = sym (append-nil (output_by m F (text L x.parent) x.symbol (side_of h x)));
-      done = sym (append-nil (take (side_of h x).total out));
-    }
-
     -- all is written
     pub playing_end : (whole : List ℕ) (total : ℕ) (x : Step) (out : List ℕ) → Playing whole total x out → (side_of h x).total ≡ 0
         → take total out ≡ whole

@@ -84,10 +84,6 @@ pub opened_ok : (c : Result Unit StoredFault) (x file : List ℕ) → Ok x ≡ t
 opened_ok (Ok tt) x file e = (refl, grind arith)
 opened_ok (Err f) x file e = absurd (grind arith)
 
-pub opened_err : (c : Result Unit StoredFault) (f : StoredFault) (file : List ℕ) → Err f ≡ then c (Ok file) → c ≡ Err f
-opened_err (Ok tt) f file e = absurd (grind arith)
-opened_err (Err g) f file e = grind arith
-
 pub ok_same : {X : Type 0} (x y : X) → ◌≡◌ {A = Result X StoredFault} (Ok x) (Ok y) → x ≡ y
 ok_same x y e = cc
 

@@ -1,11 +1,11 @@
-use Rattle.std.proofs.Common.{◌≡◌, ℕ, ◌-◌, ◌<◌, List, sym, refl, ap, ◌∙◌, subst, arith}
+use Rattle.std.proofs.Common.{ℕ, ◌-◌, ◌<◌, List, sym, refl, ap, ◌∙◌, subst, arith}
 use Rattle.table.specs.Table.{table_of}
 use Rattle.filter.specs.Machines.{values_of}
 use Rattle.filter.specs.Outcomes.{put}
 use Rattle.steps.specs.declared.step.Side.{Side}
 use Rattle.steps.specs.Steps.{side_of, at, text}
 use Rattle.replay.specs.Replays.{terms_of, output_by}
-use Rattle.replay.proofs.Outputs.{Playing, sum, lower, playing_more, playing_end}
+use Rattle.replay.proofs.Outputs.{Playing, sum, lower, playing_more}
 use Rattle.replay.proofs.written.output.Goals as goal
 
 pub overflow_sub-place-in-loop-side : goal.overflow_sub-place-in-loop-side
