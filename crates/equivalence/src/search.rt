@@ -37,6 +37,7 @@ fn step_agrees<A: Alphabet>(
 
 // The first step whose text distinguishes the two filters, or none where none does. The queue holds the step of the
 // empty text.
+// The queue, the cells and the outputs are three parameters, since each is a stretch of the caller's memory.
 pub fn search<A: Alphabet>(
     pair: &FilterPair<'_, '_, A>,
     queue: &mut Queue<'_, Step>,

@@ -45,6 +45,7 @@ fn both_live(left: Option<u16>, right: Option<u16>) -> bool
 // Whether the text of a step, which goes on from one of the steps, is worth a step: at its pair's first visit; or, if
 // both sides have a state, at the second, where the lag differs from the first one's. Answers none where it is covered,
 // else which visit it is.
+// It takes drafts and no `FilterPair`, since it asks for no sound tables.
 pub fn judge<A: Alphabet>(
     left: &Draft<'_, A>,
     right: &Draft<'_, A>,

@@ -50,6 +50,7 @@ fn extension<A: Alphabet>(
 }
 
 // Tries a symbol behind the text of a step: a step is made for the longer text if that is worth one.
+// The queue, the cells and the outputs are three parameters, since each is a stretch of the caller's memory.
 pub fn attempt<A: Alphabet>(
     pair: &FilterPair<'_, '_, A>,
     queue: &mut Queue<'_, Step>,
