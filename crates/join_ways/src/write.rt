@@ -22,7 +22,7 @@ impl From<Full> for TooLarge {
     }
 }
 
-// A stretch of an output list.
+// A stretch of an output list. The library's ranges are not `Copy`, and a path is an array of stretches.
 #[derive(Clone, Copy)]
 pub struct Span {
     pub from: usize,
