@@ -1,5 +1,5 @@
 -- The parts of the joined filter, put together.
-use Rattle.std.proofs.Common.{◌≡◌, ℕ, ◌+◌, ◌≤◌, min, List, [], ◌∷◌, ◌++◌, map, length, take, drop, Ok, Err, Option, Result, sym, refl, ap, ◌∙◌, append_assoc, arith}
+use Rattle.std.proofs.Common.{◌≡◌, ℕ, ◌+◌, ◌≤◌, min, List, [], ◌∷◌, ◌++◌, map, length, take, drop, Ok, Err, Option, Result, sym, refl, ap, ◌∙◌, subst, append_assoc, arith}
 use borrow.Rule.Slice.PartMut.{put_mid, post_of}
 use Rattle.std.specs.List.{AllByRecursion}
 use Rattle.std.proofs.ByRecursion.{All-map}
@@ -16,9 +16,8 @@ use Rattle.join_laws.specs.Joined.{pairs, joined}
 use Rattle.join_laws.proofs.Places.{begins_length}
 use Rattle.join_laws.proofs.Composed.{pairs_begin}
 use Rattle.join_ways.specs.declared.write.TooLarge.{TooLarge}
-use Rattle.join_ways.specs.declared.write.Counts.{Counts}
 use Rattle.join_ways.specs.Written.{spliced}
-use Rattle.join_ways.specs.Added.{outputs_of_lem, Fits, Added}
+use Rattle.join_ways.specs.Added.{Lines, Counts, outputs_of_lem, Fits, Added, FitsIn, AddedTo, counts}
 use Rattle.join_ways.proofs.Splices.{splice_more, splice_length}
 use Rattle.join_states.specs.Ended.{Room}
 use Rattle.join.specs.declared.Sizes.{Sizes}
@@ -30,6 +29,20 @@ all_unmap Q f (x ∷ xs) all = (all.0, all_unmap Q f xs all.1)
 
 abbrev zero : Counts
 zero = record { rules = 0; outputs = 0 }
+
+-- what was added to lists that were empty
+module _ {G T : Type 0} (ls : List (Line G T)) (L : Lines G T) (R : List (Rule G)) (O : List T) (e : L.rules.count ≡ 0) (f : L.outputs.count ≡ 0) (r : L.rules.items.now ≡ R) (o : L.outputs.items.now ≡ O) where
+  none : counts L ≡ zero
+  none = ap (λ n. record { rules = n; outputs = L.outputs.count }) e ∙ ap (λ n. record { rules = 0; outputs = n }) f
+
+  pub added_first : (L' : Lines G T) → AddedTo ls L L' → Added zero (counts L') ls R L'.rules.items.now O L'.outputs.items.now
+  added_first L' a =
+      subst (λ l. Added zero (counts L') ls R L'.rules.items.now l L'.outputs.items.now) o
+      (subst (λ l. Added zero (counts L') ls l L'.rules.items.now L.outputs.items.now L'.outputs.items.now) r
+      (subst (λ c. Added c (counts L') ls L.rules.items.now L'.rules.items.now L.outputs.items.now L'.outputs.items.now) none a))
+
+  pub fits_first : Fits zero ls R O → FitsIn ls L
+  fits_first h = subst (λ l. Fits (counts L) ls L.rules.items.now l) (sym o) (subst (λ l. Fits (counts L) ls l O) (sym r) (subst (λ c. Fits c ls R O) (sym none) h))
 
 -- a list whose first part is turned round
 turned : {X : Type 0} (xs ys l : List X) → length xs + length ys ≤ length l → (n : ℕ) → n ≡ length xs + length ys → (L Z : List X) → L ≡ spliced 0 (xs ++ ys) l → Z ≡ drop (length xs) (take n L) ++ take (length xs) (take n L)
@@ -89,6 +102,11 @@ module _ {G T : Type 0} (m : Model G T) (fs : List (Option (List ℕ))) (ls : Li
           rules_are = a.rules_are;
           outputs_are = turned X Y O (omega (arith, r.fits, long, from)) total (omega (arith, t, from)) O₂ Z whole (z ∙ ap (λ i. drop i (take total O₂) ++ take i (take total O₂)) from);
         }
+
+-- the same under other names
+pub written_same : {G T : Type 0} (J : Table G T) (room st r r' n n' i : ℕ) (S S₁ : List State) (R R₁ R₂ : List (Rule G)) (O X Y Z : List T) → r' ≡ r → n' ≡ n → i ≡ n → R₂ ≡ R₁ → Y ≡ X
+    → Written J room (record { states = st; rules = r; outputs = n }) S S₁ R R₁ O (put_mid 0 n X Z) → Written J room (record { states = st; rules = r'; outputs = n' }) S S₁ R R₂ O (put_mid 0 i Y Z)
+written_same J room st r r' n n' i S S₁ R R₁ R₂ O X Y Z e f h a b w = rw (e, f, h, a, b) w
 
 -- a write to the front of the front of a list is one to the front of the list
 cut_spliced : {X : Type 0} (xs l Y : List X) (k : ℕ) → length xs ≤ k → k ≤ length l → Y ≡ spliced 0 xs (take k l) → put_mid 0 k l Y ≡ xs ++ drop (length xs) l

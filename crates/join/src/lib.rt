@@ -12,7 +12,7 @@ use alphabet::Alphabet;
 use join_pairs::Pair;
 use join_rules::explore;
 use join_states::add_states;
-use join_ways::{Span, TooLarge};
+use join_ways::{SliceVec, Span, TooLarge};
 use queue::Queue;
 use table::check::{MOST_OUTPUTS, MOST_RULES, MOST_STATES};
 use table::{Filter, Rule, State};
@@ -44,18 +44,21 @@ fn fill<'x, A: Alphabet>(
     ensures fills { Fills (joined A.model (table_of first.now.draft) (table_of second.now.draft)) (room queue.old) states.old states.new rules.old rules.new outputs.old outputs.new result }
     ensures composes { Joins A.model (table_of first.now.draft) (table_of second.now.draft) }
 {
-    let counts = explore(first, second, &mut *queue, path, rules, &mut *outputs)?;
-    let from = counts.outputs;
-    let total = add_states(first, second, queue.entries(), states, &mut *outputs, from)?;
-    outputs[0..total].rotate_left(from);
-    Ok(Sizes {
+    let mut lines = SliceVec::new(rules);
+    let mut terms = SliceVec::new(&mut *outputs);
+    explore(first, second, queue, path, &mut lines, &mut terms)?;
+    let from = terms.count;
+    add_states(first, second, queue.entries(), states, &mut terms)?;
+    let sizes = Sizes {
         states: queue.made(),
-        rules: counts.rules,
-        outputs: total,
-    })
+        rules: lines.finish(),
+        outputs: terms.finish(),
+    };
+    outputs[0..sizes.outputs].rotate_left(from);
+    Ok(sizes)
 }
 
-// Joins two sound filters: writes the filter that does what the first does and then the second to the front of three
+// Joins two filters: writes the filter that does what the first does and then the second to the front of three
 // lists, and answers its sizes. Refuses where it is over a limit or over a list; the lists then hold anything. The pair
 // list is scratch.
 pub fn join<'x, A: Alphabet>(

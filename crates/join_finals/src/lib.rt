@@ -12,6 +12,7 @@ ghost use Rattle.join_finals.specs.Finals.{Ran, Ends};
 
 use alphabet::Alphabet;
 use filter::walk::{finish, walk};
+use join_laws::Pair;
 use table::{Filter, final_total};
 
 // The most symbols that the final outputs of a pair can have: 32 of the first filter's, each written as 32, and 32 more.
@@ -48,7 +49,7 @@ fn run_constants<A: Alphabet>(
 pub fn final_of<A: Alphabet>(
     first: &Filter<'_, A>,
     second: &Filter<'_, A>,
-    pair: (u16, u16),
+    pair: Pair,
     out: &mut [u32],
 ) -> Option<usize>
     requires room { 1056 ≤ length out.old }

@@ -8,6 +8,9 @@ ghost use Rattle.join_laws.specs.Theorems.{WaysRun, Joins};
 use alphabet::Alphabet;
 use table::Filter;
 
+// A state of the first filter and one of the second. A tuple and no struct: the laws speak of pairs of numbers.
+pub type Pair = (u16, u16);
+
 // The first way that holds a symbol is the second filter's run.
 pub fn ways_run<A: Alphabet>(second: &Filter<'_, A>) -> u8
     ensures { WaysRun A.model (table_of second.now.draft) }

@@ -1,8 +1,10 @@
 -- One turn of the search for a pair, and of numbering rules.
 use Rattle.std.proofs.Common.{◌≡◌, ℕ, ◌+◌, ◌<◌, ◌≤◌, cond, ◌&&◌, eqb, ltb, List, [], ◌∷◌, ◌++◌, map, length, get_or, take, drop, set, Some, None, Ok, Err, Result, sym, refl, ap, ◌∙◌, subst, append_assoc, arith}
 use Rattle.std.specs.List.{AllByRecursion, position_or_len}
-use Rattle.std.proofs.lemmas.List.{drop_more, take_more, map-append, length-append, length-map, length-take-le, take-append-drop, set_at, get_or_at, take_all, drop_all, append-nil}
+use Rattle.std.proofs.lemmas.List.{drop_more, take_more, map-append, length-append, length-map, length-take, length-take-le, take-append-drop, set_at, get_or_at, take_all, drop_all, append-nil}
 use Rattle.std.proofs.lemmas.Bool.Decides.{nat_tests}
+use Rattle.queue.specs.declared.store.Queue.{Queue}
+use Rattle.queue.specs.Held.{entries, room}
 use Rattle.table.specs.declared.entries.Rule.{Rule}
 use Rattle.join_laws.specs.Pairs.{Pair, place, met, met_all}
 use Rattle.join_laws.proofs.Places.{In, Begins, met_new, place_new, begins_place, met_begins, met_all_begins, met_all_in, met_all_append, begins_length}
@@ -12,6 +14,10 @@ use Rattle.join_pairs.specs.Meets.{known, targets_of, renumbered}
 pub place_position : (P : List Pair) (x : Pair) → position_or_len (λ (y : Pair). eqb y.0 x.0 && eqb y.1 x.1) P ≡ place P x
 place_position [] x = refl
 place_position (y ∷ P) x = let e = place_position P x in grind (arith, nat_tests)
+
+-- no more entries than slots
+pub entries_fit : {T : Type 0} (q : Queue T) → length (entries q) ≤ room q
+entries_fit q = simp length-take (omega arith)
 
 -- a pair that was met has its place, and one that was not has none
 pub meets_known : (P : List Pair) (x : Pair) (room n : ℕ) → known P x ≡ Some n → length P ≤ room → (P ≡ met P x) × (n ≡ place P x) × (length P ≤ room)

@@ -5,12 +5,10 @@ ghost use Rattle.std.specs.Prelude.{◌≡◌, ◌≤◌, length};
 ghost use Rattle.queue.specs.Held.{entries, room};
 ghost use Rattle.join_pairs.specs.Meets.{known, Meets, Numbers};
 
+pub use join_laws::Pair;
 use join_ways::TooLarge;
 use queue::Queue;
 use table::Rule;
-
-// A state of the first filter and one of the second.
-pub type Pair = (u16, u16);
 
 // The number of a pair, or none where it was not met yet.
 fn place_of(pairs: &[Pair], pair: Pair) -> Option<usize>
@@ -21,7 +19,6 @@ fn place_of(pairs: &[Pair], pair: Pair) -> Option<usize>
 
 // Meets a pair: answers its number, a new one at the end of the queue where it had none.
 pub fn meet(queue: &mut Queue<'_, Pair>, pair: Pair) -> Result<usize, TooLarge>
-    requires { length (entries queue.old) ≤ room queue.old }
     ensures meets { Meets (entries queue.old) pair (room queue.old) (entries queue.new) result }
     ensures taken { queue.new.taken ≡ queue.old.taken }
     ensures room { room queue.new ≡ room queue.old }
@@ -39,8 +36,7 @@ pub fn number_targets<G: Copy>(
     first: u16,
     rules: &mut [Rule<G>],
 ) -> Result<(), TooLarge>
-    requires fits { length (entries queue.old) ≤ room queue.old }
-    requires few { room queue.old ≤ 65536 }
+    requires { room queue.old ≤ 65536 }
     ensures numbers { Numbers first (entries queue.old) (room queue.old) rules.old (entries queue.new) rules.new result }
     ensures taken { queue.new.taken ≡ queue.old.taken }
     ensures room { room queue.new ≡ room queue.old }

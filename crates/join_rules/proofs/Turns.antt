@@ -13,8 +13,7 @@ use Rattle.join_laws.specs.Lines.{Line, line_of, lines_from, lines_of}
 use Rattle.join_laws.specs.Ways.{Way, ways}
 use Rattle.join_laws.specs.Pairs.{Pair, met_all}
 use Rattle.join_laws.specs.Joined.{aimed, numbered, ways_at}
-use Rattle.join_ways.specs.declared.write.Counts.{Counts}
-use Rattle.join_ways.specs.Added.{Fits}
+use Rattle.join_ways.specs.Added.{Counts, Fits}
 use Rattle.join_ways.proofs.Adds.{added_none}
 use Rattle.join_ways.proofs.Goings.{rule_outputs_sound}
 use Rattle.join_rules.specs.PairRules.{targets}

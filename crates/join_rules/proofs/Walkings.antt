@@ -9,10 +9,9 @@ use Rattle.join_laws.specs.Ways.{Way}
 use Rattle.join_laws.specs.Pairs.{Pair, met_all}
 use Rattle.join_laws.specs.Joined.{aimed, numbered}
 use Rattle.join_laws.proofs.Places.{In, Begins, begins_place, begins_length, met_all_begins, met_all_in, met_all_append}
-use Rattle.join_ways.specs.declared.write.Counts.{Counts}
 use Rattle.join_ways.specs.Written.{spliced}
 use Rattle.join_ways.specs.Paths.{raw_line}
-use Rattle.join_ways.specs.Added.{outputs_of_lem, Fits, Added}
+use Rattle.join_ways.specs.Added.{Counts, outputs_of_lem, Fits, Added}
 use Rattle.join_ways.proofs.Splices.{drop_spliced}
 use Rattle.join_ways.proofs.Adds.{added_more, fits_front, fits_rest}
 use Rattle.join_pairs.specs.Meets.{targets_of, renumbered}
@@ -28,6 +27,11 @@ take_front n xs l e = take_at (take n l) (xs ++ drop (n + length xs) l) n e
 
 post_is : {X : Type 0} (a k : ℕ) (xs : List X) → post_of a k xs ≡ drop (a + k) xs
 post_is a k xs = drop-drop k a xs
+
+-- a part that was written as a slice of its own is written over the list
+pub mid_spliced : {X : Type 0} (a k : ℕ) (l xs : List X) → k ≡ length xs → put_mid a k l xs ≡ spliced a xs l
+unfolding spliced
+mid_spliced a k l xs e = ap (λ t. take a l ++ (xs ++ t)) (post_is a k l ∙ ap (λ i. drop (a + i) l) e)
 
 module _ {G T : Type 0} where
   -- numbers last when more pairs are met
@@ -101,7 +105,7 @@ module _ {G T : Type 0} where
           ∙ take_at X (drop (d.rules + length X) R) (length X) refl
 
       -- with their targets' numbers they are the lines of the ways
-      pub added_numbered : (R₂ Y : List (Rule G)) → R₂ ≡ put_mid d.rules (e.rules - d.rules) R₁ Y → Y ≡ map (renumbered P p) (map rule_of_lem (map (raw_line k []) W))
+      pub added_numbered : (R₂ Y : List (Rule G)) → R₂ ≡ spliced d.rules Y R₁ → Y ≡ map (renumbered P p) (map rule_of_lem (map (raw_line k []) W))
           → Added d e (map (numbered P k) (map (aimed p) W)) R R₂ O O₁
       added_numbered R₂ Y is ys = record {
         fits = record {
@@ -111,7 +115,7 @@ module _ {G T : Type 0} where
         };
         rule_count = a.rule_count ∙ ap (λ n. d.rules + n) (sym (long_aimed W));
         output_count = a.output_count ∙ ap (λ l. d.outputs + length l) (outputs_aimed W);
-        rules_are = is ∙ middle;
+        rules_are = is ∙ sym (mid_spliced d.rules (e.rules - d.rules) R₁ Y (size ∙ sym (length-map (map rule_of_lem (map (raw_line k []) W)) (renumbered P p)) ∙ ap length (sym ys))) ∙ middle;
         outputs_are = a.outputs_are ∙ ap (λ l. spliced d.outputs l O) (outputs_aimed W);
       }
         where

@@ -8,13 +8,35 @@ ghost use Rattle.queue.specs.Held.{entries, room};
 ghost use Rattle.join_laws.specs.Lines.{lines_of};
 ghost use Rattle.join_laws.specs.Ways.{ways};
 ghost use Rattle.join_laws.specs.Joined.{aimed, ways_at};
-ghost use Rattle.join_rules.specs.PairRules.{Takes, Explores};
+ghost use Rattle.join_ways.specs.Written.{Same};
+ghost use Rattle.join_ways.specs.Added.{lines};
+ghost use Rattle.join_rules.specs.PairRules.{NumbersSince, Takes, Explores};
 
 use alphabet::Alphabet;
 use join_pairs::{Pair, number_targets};
-use join_ways::{Counts, Course, Span, TooLarge, add_ways};
+use join_ways::{Course, SliceVec, Span, TooLarge, add_ways};
 use queue::Queue;
 use table::{Filter, Rule, final_total};
+
+// Meets the pairs that the rules from a number on lead to, and gives these rules their numbers.
+fn number_since<G: Copy>(
+    queue: &mut Queue<'_, Pair>,
+    first: u16,
+    rules: &mut SliceVec<'_, Rule<G>>,
+    before: usize,
+) -> Result<(), TooLarge>
+    requires few { room queue.old ≤ 65536 }
+    requires before { before ≤ rules.old.count }
+    ensures numbers { NumbersSince first before (entries queue.old) (room queue.old) rules.old (entries queue.new) rules.new result }
+    ensures taken { queue.new.taken ≡ queue.old.taken }
+    ensures room { room queue.new ≡ room queue.old }
+    ensures same { Same rules.old rules.new }
+{
+    let after = rules.count;
+    let items = &mut *rules.items;
+    number_targets(queue, first, &mut items[before..after])?;
+    Ok(())
+}
 
 // Writes the ways that follow a rule of the first filter, and meets the pairs that they lead to where the first goes on
 // to a state.
@@ -25,28 +47,25 @@ fn add_line<A: Alphabet>(
     guard: A::Guard,
     queue: &mut Queue<'_, Pair>,
     path: &mut [Span],
-    rules: &mut [Rule<A::Guard>],
-    outputs: &mut [A::Term],
-    counts: Counts,
-) -> Result<Counts, TooLarge>
+    rules: &mut SliceVec<'_, Rule<A::Guard>>,
+    outputs: &mut SliceVec<'_, A::Term>,
+) -> Result<(), TooLarge>
     requires guard { SoundGuard A.model guard }
-    requires fits { length (entries queue.old) ≤ room queue.old }
     requires few { room queue.old ≤ 64 }
     requires path { length course.now.terms.now ≤ length path.old }
-    requires rules { counts.rules ≤ length rules.old }
-    requires outputs { counts.outputs ≤ length outputs.old }
-    ensures takes { Takes course.now.number (map (aimed next) (ways A.model (lines_of (table_of course.now.second.now.draft)) course.now.terms.now state guard)) (entries queue.old) (room queue.old) counts rules.old outputs.old (entries queue.new) rules.new outputs.new result }
+    ensures takes { Takes course.now.number (map (aimed next) (ways A.model (lines_of (table_of course.now.second.now.draft)) course.now.terms.now state guard)) (entries queue.old) (room queue.old) (lines rules.old outputs.old) (entries queue.new) (lines rules.new outputs.new) result }
     ensures taken { queue.new.taken ≡ queue.old.taken }
     ensures room { room queue.new ≡ room queue.old }
+    ensures same_rules { Same rules.old rules.new }
+    ensures same_outputs { Same outputs.old outputs.new }
 {
-    let before = counts.rules;
-    let so_far = add_ways(course, 0, state, guard, path, &mut *rules, outputs, counts)?;
-    let after = so_far.rules;
-    number_targets(queue, next, &mut rules[before..after])?;
-    Ok(so_far)
+    let before = rules.count;
+    add_ways(course, 0, state, guard, path, &mut *rules, outputs)?;
+    number_since(queue, next, rules, before)?;
+    Ok(())
 }
 
-// Writes the rules of a pair behind those that are counted, and meets the pairs that they lead to.
+// Writes the rules of a pair, and meets the pairs that they lead to.
 fn add_pair<'x, A: Alphabet>(
     first: &'x Filter<'x, A>,
     second: &'x Filter<'x, A>,
@@ -54,22 +73,19 @@ fn add_pair<'x, A: Alphabet>(
     number: u16,
     queue: &mut Queue<'_, Pair>,
     path: &mut [Span],
-    rules: &mut [Rule<A::Guard>],
-    outputs: &mut [A::Term],
-    counts: Counts,
-) -> Result<Counts, TooLarge>
-    requires fits { length (entries queue.old) ≤ room queue.old }
+    rules: &mut SliceVec<'_, Rule<A::Guard>>,
+    outputs: &mut SliceVec<'_, A::Term>,
+) -> Result<(), TooLarge>
     requires few { room queue.old ≤ 64 }
     requires path { 32 ≤ length path.old }
-    requires rules { counts.rules ≤ length rules.old }
-    requires outputs { counts.outputs ≤ length outputs.old }
-    ensures takes { Takes number (ways_at A.model (table_of first.now.draft) (table_of second.now.draft) pair) (entries queue.old) (room queue.old) counts rules.old outputs.old (entries queue.new) rules.new outputs.new result }
+    ensures takes { Takes number (ways_at A.model (table_of first.now.draft) (table_of second.now.draft) pair) (entries queue.old) (room queue.old) (lines rules.old outputs.old) (entries queue.new) (lines rules.new outputs.new) result }
     ensures taken { queue.new.taken ≡ queue.old.taken }
     ensures room { room queue.new ≡ room queue.old }
+    ensures same_rules { Same rules.old rules.new }
+    ensures same_outputs { Same outputs.old outputs.new }
 {
     let begins = final_total(second.draft.states);
     let mut start = final_total(first.draft.states);
-    let mut so_far = counts;
     for rule in first.draft.rules {
         let from = start;
         start = from + rule.outputs as usize;
@@ -80,12 +96,12 @@ fn add_pair<'x, A: Alphabet>(
                 terms: &first.draft.outputs[from..start],
                 number,
             };
-            so_far = add_line(
-                &course, rule.next, pair.1, rule.guard, queue, path, rules, outputs, so_far,
+            add_line(
+                &course, rule.next, pair.1, rule.guard, queue, path, rules, outputs,
             )?;
         }
     }
-    Ok(so_far)
+    Ok(())
 }
 
 // Takes the waiting pairs, those that are met on the way too, and writes their rules.
@@ -94,23 +110,21 @@ pub fn explore<'x, A: Alphabet>(
     second: &'x Filter<'x, A>,
     queue: &mut Queue<'_, Pair>,
     path: &mut [Span],
-    rules: &mut [Rule<A::Guard>],
-    outputs: &mut [A::Term],
-) -> Result<Counts, TooLarge>
+    rules: &mut SliceVec<'_, Rule<A::Guard>>,
+    outputs: &mut SliceVec<'_, A::Term>,
+) -> Result<(), TooLarge>
     requires start { entries queue.old ≡ (0, 0) ∷ [] }
     requires waits { queue.old.taken ≡ 0 }
     requires fits { 1 ≤ room queue.old }
     requires few { room queue.old ≤ 64 }
     requires path { 32 ≤ length path.old }
-    ensures explores { Explores A.model (table_of first.now.draft) (table_of second.now.draft) (room queue.old) rules.old outputs.old (entries queue.new) rules.new outputs.new result }
+    ensures explores { Explores A.model (table_of first.now.draft) (table_of second.now.draft) (room queue.old) (lines rules.old outputs.old) (entries queue.new) (lines rules.new outputs.new) result }
     ensures room { room queue.new ≡ room queue.old }
+    ensures same_rules { Same rules.old rules.new }
+    ensures same_outputs { Same outputs.old outputs.new }
 {
-    let mut counts = Counts {
-        rules: 0,
-        outputs: 0,
-    };
     while let Some((number, pair)) = queue.next() {
-        counts = add_pair(
+        add_pair(
             first,
             second,
             pair,
@@ -119,8 +133,7 @@ pub fn explore<'x, A: Alphabet>(
             path,
             rules,
             outputs,
-            counts,
         )?;
     }
-    Ok(counts)
+    Ok(())
 }

@@ -1,5 +1,5 @@
 -- Final outputs written one after another.
-use Rattle.std.proofs.Common.{◌≡◌, ℕ, ◌+◌, ◌<◌, ◌≤◌, List, [], ◌∷◌, ◌++◌, map, length, get_or, take, drop, set, Some, None, Ok, Option, sym, refl, ap, ◌∙◌, subst, append_assoc, append-nil, arith}
+use Rattle.std.proofs.Common.{◌≡◌, ℕ, ◌+◌, ◌<◌, ◌≤◌, List, [], ◌∷◌, ◌++◌, map, length, get_or, take, drop, set, Some, None, Option, sym, refl, ap, ◌∙◌, subst, append_assoc, append-nil, arith}
 use Rattle.std.specs.List.{AllByRecursion}
 use Rattle.std.proofs.ByRecursion.{All-append}
 use Rattle.std.proofs.lemmas.List.{length-append, map-append, take_more, take_all, take-append-drop}
@@ -9,7 +9,7 @@ use Rattle.join_laws.specs.Lists.{gathered}
 use Rattle.join_laws.specs.Lines.{state_of, constants}
 use Rattle.join_ways.specs.Written.{spliced}
 use Rattle.join_ways.proofs.Splices.{splice_none, Mid, mid_none, mid_push, mid_more, mid_length}
-use Rattle.join_states.specs.Ended.{Room, Ended}
+use Rattle.join_states.specs.Ended.{Room}
 
 pub gathered_append : {X Y : Type 0} (f : X → List Y) (xs ys : List X) → gathered f (xs ++ ys) ≡ gathered f xs ++ gathered f ys
 gathered_append f [] ys = refl
@@ -65,9 +65,13 @@ module _ {G T : Type 0} (m : Model G T) (at : ℕ) (os : List (Option (List ℕ)
 
 -- one final output
 module _ {G T : Type 0} (m : Model G T) (at : ℕ) (O : List T) where
-  pub ended_none : (o : Option (List ℕ)) → o ≡ None → at ≤ length O → Ended m at o O O (Ok (record { mark = 0; finals = 0 }, at))
+  -- its state, and where it was written
+  abbrev pub Done : State → ℕ → Option (List ℕ) → List T → Type 0
+  Done s end o O' = (s ≡ state_of o) × (end ≡ at + length (constants m o)) × (O' ≡ spliced at (constants m o) O) × Room m at (o ∷ []) O
+
+  pub ended_none : (o : Option (List ℕ)) → o ≡ None → at ≤ length O → Done (record { mark = 0; finals = 0 }) at o O
   ended_none o e h =
-      subst (λ x. Ended m at x O O (Ok (record { mark = 0; finals = 0 }, at))) (sym e)
+      subst (λ x. Done (record { mark = 0; finals = 0 }) at x O) (sym e)
       (refl, omega arith, sym (splice_none at O), record { short = (omega arith, tt); fits = omega arith })
 
   module _ (o : Option (List ℕ)) (w : List ℕ) (is : o ≡ Some w) where
@@ -80,7 +84,7 @@ module _ {G T : Type 0} (m : Model G T) (at : ℕ) (O : List T) where
         omega (arith, f, ap length (append-nil (map m.constant w)))
 
     pub ended_some : (count end : ℕ) (O' : List T) → length w ≡ count → count ≤ 32 → end ≡ at + length (map m.constant w) → end ≤ length O → O' ≡ spliced at (map m.constant w) O
-        → Ended m at o O O' (Ok (record { mark = 1; finals = count }, end))
+        → Done (record { mark = 1; finals = count }) end o O'
     ended_some count end O' size short e room wrote =
-        subst (λ x. Ended m at x O O' (Ok (record { mark = 1; finals = count }, end))) (sym is)
+        subst (λ x. Done (record { mark = 1; finals = count }) end x O') (sym is)
         (ap (λ n. record { mark = 1; finals = n }) (sym size), e, wrote, record { short = (omega arith, tt); fits = omega (arith, ap length (append-nil (map m.constant w))) })

@@ -1,14 +1,14 @@
 -- Lines added to lists, one and several.
-use Rattle.std.proofs.Common.{◌≡◌, ℕ, ◌+◌, ◌<◌, ◌≤◌, List, [], ◌∷◌, ◌++◌, map, length, set, sym, refl, ap, ◌∙◌, append_assoc, append-nil, arith}
+use Rattle.std.proofs.Common.{◌≡◌, ◌+◌, ◌<◌, ◌≤◌, List, [], ◌∷◌, ◌++◌, map, length, Ok, Err, Result, sym, refl, ap, ◌∙◌, append_assoc, append-nil, arith}
 use Rattle.std.specs.List.{AllByRecursion}
 use Rattle.std.proofs.ByRecursion.{All-append}
 use Rattle.std.proofs.lemmas.List.{length-append, length-map, map-append}
 use Rattle.table.specs.declared.entries.Rule.{Rule}
 use Rattle.join_laws.specs.Lines.{Line, rule_of_lem}
-use Rattle.join_ways.specs.declared.write.Counts.{Counts}
-use Rattle.join_ways.specs.Written.{spliced}
-use Rattle.join_ways.specs.Added.{outputs_of_lem, Fits, Added}
-use Rattle.join_ways.proofs.Splices.{Mid, mid_more, mid_length, splice_none, splice_one}
+use Rattle.join_ways.specs.declared.write.TooLarge.{TooLarge}
+use Rattle.join_ways.specs.Written.{spliced, Wrote}
+use Rattle.join_ways.specs.Added.{Lines, Counts, outputs_of_lem, Fits, Added, Adds, counts}
+use Rattle.join_ways.proofs.Splices.{Mid, mid_more, mid_length, splice_none}
 
 module _ {G T : Type 0} where
   pub outputs_append : (ls ks : List (Line G T)) → outputs_of_lem (ls ++ ks) ≡ outputs_of_lem ls ++ outputs_of_lem ks
@@ -22,20 +22,24 @@ module _ {G T : Type 0} where
   pub one_over : (c : Counts) (l : Line G T) (R : List (Rule G)) (O : List T) → 32 < length l.outputs → Fits c (l ∷ []) R O → ⊥
   one_over c l R O over f = omega (arith, f.short.0)
 
-  pub one_full : (c : Counts) (l : Line G T) (R : List (Rule G)) (O : List T) → length R ≤ c.rules → Fits c (l ∷ []) R O → ⊥
-  one_full c l R O over f = omega (arith, f.rules_fit)
-
-  pub one_added : (c : Counts) (l : Line G T) (R : List (Rule G)) (O O' : List T) (to : ℕ) → Mid c.outputs to l.outputs O O' → length l.outputs ≤ 32 → c.rules < length R
-      → Added c (record { rules = c.rules + 1; outputs = to }) (l ∷ []) R (set R c.rules (rule_of_lem l)) O O'
-  one_added c l R O O' to k short room =
+  pub one_added : (c d : Counts) (l : Line G T) (R R' : List (Rule G)) (O O' : List T) → Mid c.rules d.rules (rule_of_lem l ∷ []) R R' → Mid c.outputs d.outputs l.outputs O O' → length l.outputs ≤ 32
+      → Added c d (l ∷ []) R R' O O'
+  one_added c d l R R' O O' j k short =
       let e = append-nil l.outputs in
       record {
-        fits = record { rules_fit = omega arith; outputs_fit = omega (arith, ap length e, k.ends, k.room); short = (short, tt) };
-        rule_count = refl;
+        fits = record { rules_fit = omega (arith, j.ends, j.room); outputs_fit = omega (arith, ap length e, k.ends, k.room); short = (short, tt) };
+        rule_count = j.ends;
         output_count = k.ends ∙ ap (λ x. c.outputs + length x) (sym e);
-        rules_are = splice_one c.rules (rule_of_lem l) R room;
+        rules_are = j.is;
         outputs_are = k.is ∙ ap (λ x. spliced c.outputs x O) (sym e);
       }
+
+  -- its outputs are written, and its rule is pushed or has no room
+  pub one_pushed : (l : Line G T) (L M : Lines G T) → Mid L.outputs.count M.outputs.count l.outputs L.outputs.items.now M.outputs.items.now → length l.outputs ≤ 32
+      → (r : Result Unit TooLarge) → Wrote (rule_of_lem l ∷ []) L.rules M.rules r → Adds (l ∷ []) L M r
+  one_pushed l L M k short (Ok u) (e, h, is) =
+      one_added (counts L) (counts M) l L.rules.items.now M.rules.items.now L.outputs.items.now M.outputs.items.now (record { ends = e; room = h; is = is }) k short
+  one_pushed l L M k short (Err e) over = λ f. omega (arith, over, f.rules_fit)
 
   pub added_none : (c : Counts) (R : List (Rule G)) (O : List T) → c.rules ≤ length R → c.outputs ≤ length O → Added c c [] R R O O
   added_none c R O h k = record {

@@ -13,10 +13,9 @@ use Rattle.join_laws.specs.Lists.{gathered, on_some}
 use Rattle.join_laws.specs.Lines.{Line, line_of, lines_from, lines_of}
 use Rattle.join_laws.specs.Ways.{Way, followed_by, fronted, ways}
 use Rattle.join_laws.proofs.Lines.{width}
-use Rattle.join_ways.specs.declared.write.Counts.{Counts}
 use Rattle.join_ways.specs.declared.write.Span.{Span}
 use Rattle.join_ways.specs.Paths.{SoundSpan, raw_line}
-use Rattle.join_ways.specs.Added.{Fits, Added}
+use Rattle.join_ways.specs.Added.{Counts, Fits, Added}
 use Rattle.join_ways.proofs.Adds.{added_none, added_more, fits_front, fits_rest}
 
 -- no stretch past the items

@@ -1,12 +1,17 @@
 -- Lines that are added to a rule list and an output list.
-use Rattle.std.specs.Prelude.{◌≡◌, ◌+◌, ◌≤◌, List, map, length, Ok, Err, Result}
+use Rattle.std.specs.Prelude.{◌≡◌, ℕ, ◌+◌, ◌≤◌, List, map, length, Ok, Err, Result}
 use Rattle.std.specs.List.{AllByRecursion}
 use Rattle.table.specs.declared.entries.Rule.{Rule}
 use Rattle.join_laws.specs.Lists.{gathered}
 use Rattle.join_laws.specs.Lines.{Line, rule_of_lem}
-use Rattle.join_ways.specs.declared.write.Counts.{Counts}
 use Rattle.join_ways.specs.declared.write.TooLarge.{TooLarge}
+use Rattle.join_ways.specs.declared.slice_vec.SliceVec.{SliceVec}
 use Rattle.join_ways.specs.Written.{spliced}
+
+-- how many rules and outputs there are
+pub record Counts : Type 0 where
+  pub rules : ℕ
+  pub outputs : ℕ
 
 -- all outputs of lines
 abbrev pub outputs_of_lem : {G T : Type 0} → List (Line G T) → List T
@@ -26,7 +31,27 @@ pub record Added {G T : Type 0} (c d : Counts) (ls : List (Line G T)) (rules rul
   pub rules_are : rules' ≡ spliced c.rules (map rule_of_lem ls) rules
   pub outputs_are : outputs' ≡ spliced c.outputs (outputs_of_lem ls) outputs
 
+-- the lists of rules and of outputs
+pub record Lines (G T : Type 0) : Type 0 where
+  pub rules : SliceVec (Rule G)
+  pub outputs : SliceVec T
+
+abbrev pub lines : {G T : Type 0} → SliceVec (Rule G) → SliceVec T → Lines G T
+lines r o = record { rules = r; outputs = o }
+
+-- how much there is so far
+abbrev pub counts : {G T : Type 0} → Lines G T → Counts
+counts l = record { rules = l.rules.count; outputs = l.outputs.count }
+
+-- they have room for these lines
+abbrev pub FitsIn : {G T : Type 0} → List (Line G T) → Lines G T → Type 0
+FitsIn ls l = Fits (counts l) ls l.rules.items.now l.outputs.items.now
+
+-- these lines were added
+abbrev pub AddedTo : {G T : Type 0} → List (Line G T) → Lines G T → Lines G T → Type 0
+AddedTo ls before after = Added (counts before) (counts after) ls before.rules.items.now after.rules.items.now before.outputs.items.now after.outputs.items.now
+
 -- the lines are added, or refused because they do not fit
-abbrev pub Adds : {G T : Type 0} → Counts → List (Line G T) → List (Rule G) → List (Rule G) → List T → List T → Result Counts TooLarge → Type 0
-Adds c ls rules rules' outputs outputs' (Ok d) = Added c d ls rules rules' outputs outputs'
-Adds c ls rules rules' outputs outputs' (Err e) = Fits c ls rules outputs → ⊥
+abbrev pub Adds : {G T : Type 0} → List (Line G T) → Lines G T → Lines G T → Result Unit TooLarge → Type 0
+Adds ls before after (Ok u) = AddedTo ls before after
+Adds ls before after (Err e) = FitsIn ls before → ⊥

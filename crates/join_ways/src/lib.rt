@@ -2,9 +2,11 @@
 #![tactic(auto)]
 
 pub mod course;
+pub mod slice_vec;
 pub mod ways;
 pub mod write;
 
 pub use course::Course;
+pub use slice_vec::SliceVec;
 pub use ways::add_ways;
-pub use write::{Counts, Span, TooLarge};
+pub use write::{MOST_AT_ONCE, Span, TooLarge};

@@ -6,10 +6,12 @@ ghost use Rattle.table.specs.Table.{table_of};
 ghost use Rattle.join_laws.specs.Lines.{lines_of};
 ghost use Rattle.join_laws.specs.Ways.{ways as ways_from};
 ghost use Rattle.join_ways.specs.Paths.{within, SoundSpan, along, raw_line, whole_line};
-ghost use Rattle.join_ways.specs.Added.{Adds};
+ghost use Rattle.join_ways.specs.Written.{Same};
+ghost use Rattle.join_ways.specs.Added.{Adds, lines};
 
 use crate::course::Course;
-use crate::write::{Counts, MOST_AT_ONCE, Span, TooLarge, write_along};
+use crate::slice_vec::SliceVec;
+use crate::write::{MOST_AT_ONCE, Span, TooLarge, write_along};
 use alphabet::Alphabet;
 use table::Rule;
 
@@ -19,32 +21,27 @@ fn add_rule<A: Alphabet>(
     path: &[Span],
     state: u16,
     guard: A::Guard,
-    rules: &mut [Rule<A::Guard>],
-    outputs: &mut [A::Term],
-    counts: Counts,
-) -> Result<Counts, TooLarge>
+    rules: &mut SliceVec<'_, Rule<A::Guard>>,
+    outputs: &mut SliceVec<'_, A::Term>,
+) -> Result<(), TooLarge>
     requires path { length path.now ≡ length course.now.terms.now }
     requires spans { AllByRecursion (SoundSpan A.model course.now.second.now.draft.outputs.now) path.now }
-    requires rules { counts.rules ≤ length rules.old }
-    requires outputs { counts.outputs ≤ length outputs.old }
-    ensures { Adds counts (whole_line course.now.number (along A.model course.now.terms.now (map (within course.now.second.now.draft.outputs.now) path.now)) state guard ∷ []) rules.old rules.new outputs.old outputs.new result }
+    ensures adds { Adds (whole_line course.now.number (along A.model course.now.terms.now (map (within course.now.second.now.draft.outputs.now) path.now)) state guard ∷ []) (lines rules.old outputs.old) (lines rules.new outputs.new) result }
+    ensures same_rules { Same rules.old rules.new }
+    ensures same_outputs { Same outputs.old outputs.new }
 {
-    let from = counts.outputs;
     let second = course.second;
-    let to = write_along::<A>(course.terms, second.draft.outputs, path, outputs, from)?;
-    let count = to - from;
-    if count > MOST_AT_ONCE || counts.rules >= rules.len() {
+    let before = outputs.count;
+    write_along::<A>(course.terms, second.draft.outputs, path, &mut *outputs)?;
+    let count = outputs.count - before;
+    if count > MOST_AT_ONCE {
         return Err(TooLarge);
     }
-    rules[counts.rules] = Rule {
+    rules.push(Rule {
         state: course.number,
         next: state,
         outputs: count as u16,
         guard,
-    };
-    Ok(Counts {
-        rules: counts.rules + 1,
-        outputs: to,
     })
 }
 
@@ -56,33 +53,23 @@ pub fn add_ways<A: Alphabet>(
     state: u16,
     guard: A::Guard,
     path: &mut [Span],
-    rules: &mut [Rule<A::Guard>],
-    outputs: &mut [A::Term],
-    counts: Counts,
-) -> Result<Counts, TooLarge>
+    rules: &mut SliceVec<'_, Rule<A::Guard>>,
+    outputs: &mut SliceVec<'_, A::Term>,
+) -> Result<(), TooLarge>
     requires depth { depth ≤ length course.now.terms.now }
     requires path { length course.now.terms.now ≤ length path.old }
     requires spans { AllByRecursion (SoundSpan A.model course.now.second.now.draft.outputs.now) (take depth path.old) }
     requires guard { SoundGuard A.model guard }
-    requires rules { counts.rules ≤ length rules.old }
-    requires outputs { counts.outputs ≤ length outputs.old }
-    ensures adds { Adds counts (map (raw_line course.now.number (along A.model (take depth course.now.terms.now) (map (within course.now.second.now.draft.outputs.now) (take depth path.old)))) (ways_from A.model (lines_of (table_of course.now.second.now.draft)) (drop depth course.now.terms.now) state guard)) rules.old rules.new outputs.old outputs.new result }
+    ensures adds { Adds (map (raw_line course.now.number (along A.model (take depth course.now.terms.now) (map (within course.now.second.now.draft.outputs.now) (take depth path.old)))) (ways_from A.model (lines_of (table_of course.now.second.now.draft)) (drop depth course.now.terms.now) state guard)) (lines rules.old outputs.old) (lines rules.new outputs.new) result }
+    ensures same_rules { Same rules.old rules.new }
+    ensures same_outputs { Same outputs.old outputs.new }
     ensures keeps { take depth path.new ≡ take depth path.old }
 {
     if depth >= course.terms.len() {
-        return add_rule(
-            course,
-            &path[0..depth],
-            state,
-            guard,
-            rules,
-            outputs,
-            counts,
-        );
+        return add_rule(course, &path[0..depth], state, guard, rules, outputs);
     }
     let second = course.second;
     let term = course.terms[depth];
-    let mut so_far = counts;
     let mut start = course.first;
     for rule in second.draft.rules {
         let from = start;
@@ -92,7 +79,7 @@ pub fn add_ways<A: Alphabet>(
                 continue;
             };
             path[depth] = Span { from, to: start };
-            so_far = add_ways(
+            add_ways(
                 course,
                 depth + 1,
                 rule.next,
@@ -100,9 +87,8 @@ pub fn add_ways<A: Alphabet>(
                 &mut *path,
                 &mut *rules,
                 &mut *outputs,
-                so_far,
             )?;
         }
     }
-    Ok(so_far)
+    Ok(())
 }

@@ -1,15 +1,15 @@
 // Writing a way: its outputs, and its rule.
-ghost use Rattle.std.specs.Prelude.{◌≡◌, ◌+◌, ◌^◌, ◌≤◌, [], ◌∷◌, map, length};
+ghost use Rattle.std.specs.Prelude.{◌≡◌, ◌≤◌, [], ◌∷◌, map, length};
 ghost use Rattle.std.specs.List.{AllByRecursion};
 ghost use Rattle.alphabet.specs.Model.{SoundTerm};
 ghost use Rattle.join_laws.specs.Ways.{followed_by};
-ghost use Rattle.join_ways.specs.Written.{Wrote};
+ghost use Rattle.join_ways.specs.Written.{Wrote, Same};
 ghost use Rattle.join_ways.specs.Paths.{within, SoundSpan, along};
-ghost use Rattle.join_ways.specs.Added.{Adds};
 
+use crate::slice_vec::SliceVec;
 use alphabet::Alphabet;
 use queue::Full;
-use table::Rule;
+use table::check;
 
 // The joined filter is over a limit, or over a list that was handed in.
 #[derive(Clone, Copy)]
@@ -22,69 +22,85 @@ impl From<Full> for TooLarge {
     }
 }
 
-// A stretch of an output list.
+// A stretch of an output list. The library's ranges are not `Copy`, and a path is an array of stretches.
 #[derive(Clone, Copy)]
 pub struct Span {
     pub from: usize,
     pub to: usize,
 }
 
-// How many rules and outputs were written so far.
-#[derive(Clone, Copy)]
-pub struct Counts {
-    pub rules: usize,
-    pub outputs: usize,
+// The most outputs of one rule, and of one state.
+pub const MOST_AT_ONCE: usize = check::MOST_AT_ONCE as usize;
+
+impl<'a, T: Copy> SliceVec<'a, T> {
+    // An empty list.
+    pub fn new(items: &'a mut [T]) -> SliceVec<'a, T>
+        ensures empty { result.count ≡ 0 }
+        ensures items { result.items.now ≡ items.old }
+        ensures same { result.items.ghost_name ≡ items.entry.ghost_name }
+    {
+        SliceVec { items, count: 0 }
+    }
+
+    // Puts an item behind the others; refuses where there is no room.
+    pub fn push(&mut self, item: T) -> Result<(), TooLarge>
+        ensures wrote { Wrote (item ∷ []) self.old self.new result }
+        ensures same { Same self.old self.new }
+    {
+        if self.count >= self.items.len() {
+            return Err(TooLarge);
+        }
+        self.items[self.count] = item;
+        self.count += 1;
+        Ok(())
+    }
+
+    // Gives the slice back, with the items at its front, and answers how many there are.
+    pub fn finish(self) -> usize
+        ensures count { result ≡ self.entry.count }
+        ensures items { self.exit.0.now ≡ self.entry.items.now }
+    {
+        let SliceVec { items, count } = self;
+        count
+    }
 }
 
-// The most outputs of one rule.
-pub const MOST_AT_ONCE: usize = 32;
-
-// Writes a term followed by each of others from a place on, and answers the place behind them; refuses where there is
-// no room.
+// Writes a term followed by each of others.
 fn write_followed<A: Alphabet>(
     term: A::Term,
     others: &[A::Term],
-    outputs: &mut [A::Term],
-    at: usize,
-) -> Result<usize, TooLarge>
+    outputs: &mut SliceVec<'_, A::Term>,
+) -> Result<(), TooLarge>
     requires term { SoundTerm A.model term }
     requires others { AllByRecursion (SoundTerm A.model) others.now }
-    requires at { at ≤ length outputs.old }
-    ensures { Wrote at (followed_by A.model term others.now) outputs.old outputs.new result }
+    ensures wrote { Wrote (followed_by A.model term others.now) outputs.old outputs.new result }
+    ensures same { Same outputs.old outputs.new }
 {
-    let mut place = at;
     for other in others {
         // sound filters have no two terms here that are nowhere both defined
-        let Some(followed) = A::followed(term, *other) else {
-            continue;
-        };
-        if place >= outputs.len() {
-            return Err(TooLarge);
+        if let Some(followed) = A::followed(term, *other) {
+            outputs.push(followed)?;
         }
-        outputs[place] = followed;
-        place += 1;
     }
-    Ok(place)
+    Ok(())
 }
 
-// Writes the outputs of a way from a place on: each term followed by the outputs of the rule that took it.
+// Writes the outputs of a way: each term followed by the outputs of the rule that took it.
 pub(crate) fn write_along<A: Alphabet>(
     terms: &[A::Term],
     second: &[A::Term],
     path: &[Span],
-    outputs: &mut [A::Term],
-    at: usize,
-) -> Result<usize, TooLarge>
+    outputs: &mut SliceVec<'_, A::Term>,
+) -> Result<(), TooLarge>
     requires terms { AllByRecursion (SoundTerm A.model) terms.now }
     requires path { length path.now ≡ length terms.now }
     requires spans { AllByRecursion (SoundSpan A.model second.now) path.now }
-    requires at { at ≤ length outputs.old }
-    ensures { Wrote at (along A.model terms.now (map (within second.now) path.now)) outputs.old outputs.new result }
+    ensures wrote { Wrote (along A.model terms.now (map (within second.now) path.now)) outputs.old outputs.new result }
+    ensures same { Same outputs.old outputs.new }
 {
-    let mut place = at;
     for (depth, term) in terms.iter().enumerate() {
         let Span { from, to } = path[depth];
-        place = write_followed::<A>(*term, &second[from..to], outputs, place)?;
+        write_followed::<A>(*term, &second[from..to], outputs)?;
     }
-    Ok(place)
+    Ok(())
 }

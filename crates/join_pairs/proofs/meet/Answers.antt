@@ -2,14 +2,14 @@ use Rattle.std.proofs.Common.{◌≡◌, None, length, sym, ◌∙◌, ap}
 use Rattle.std.proofs.lemmas.Result.{err_from_is_err_and}
 use Rattle.queue.specs.Held.{entries, room}
 use Rattle.join_pairs.specs.Meets.{known}
-use Rattle.join_pairs.proofs.Meetings.{meets_known, unknown_new, number_given, number_refused, meets_new, meets_full}
+use Rattle.join_pairs.proofs.Meetings.{entries_fit, meets_known, unknown_new, number_given, number_refused, meets_new, meets_full}
 use Rattle.join_pairs.proofs.meet.Goals as goal
 
 pub returns-in-Some-clause-meets : goal.returns-in-Some-clause-meets
 returns-in-Some-clause-meets c =
     let q = c.args.queue.now in
     let e : known (entries q) c.args.pair ≡ _ = ap (λ l. known l c.args.pair) (sym c.entries.ensures) ∙ sym c.place_of.ensures ∙ c.in-Some.is in
-    meets_known (entries q) c.args.pair (room q) c.in-Some.number e c.requires
+    meets_known (entries q) c.args.pair (room q) c.in-Some.number e (entries_fit q)
 
 pub returns-in_err-new-clause-meets : goal.returns-in_err-new-clause-meets
 returns-in_err-new-clause-meets c =

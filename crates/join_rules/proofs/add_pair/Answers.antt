@@ -5,15 +5,16 @@ use Rattle.std.proofs.lemmas.Option.{slice_get_read}
 use Rattle.std.proofs.lemmas.Result.{err_from_is_err_and}
 use Rattle.std.proofs.lemmas.Bool.Decides.{nat_tests}
 use Rattle.alphabet.specs.Model.{SoundTerm}
-use Rattle.join_ways.proofs.Adds.{rules_long, outputs_long}
+use Rattle.join_pairs.proofs.Meetings.{entries_fit}
 use Rattle.join_rules.proofs.Turns.{walking_start, walking_end, walking_skip, walking_on, walking_refused, ends_within, terms_sound}
 use Rattle.table.proofs.Soundness.{sound_from_checked}
 use Rattle.table.specs.Table.{table_of}
+use Rattle.join_ways.specs.Added.{lines}
 use Rattle.join_rules.proofs.add_pair.Goals as goal
-use Rattle.join_rules.proofs.add_pair.Goals.{then-rule-pair+in_ok-so_far, else-rule-pair}
+use Rattle.join_rules.proofs.add_pair.Goals.{then-rule-pair+in_ok-add_line, else-rule-pair}
 
 pub loop-rule-init : goal.loop-rule-init
-loop-rule-init g c = (walking_start _ _ _ _ _ _ _ _ _ _ (sound_from_checked g.A.Alphabet.model g.A.Alphabet.laws (table_of c.args.first.now.draft) c.args.first.now.sound) c.final_total-start.result c.final_total-start.ensures.total c.requires.fits c.requires.rules c.requires.outputs, refl, refl)
+loop-rule-init g c = (walking_start _ _ _ _ _ _ _ _ _ _ (sound_from_checked g.A.Alphabet.model g.A.Alphabet.laws (table_of c.args.first.now.draft) c.args.first.now.sound) c.final_total-start.result c.final_total-start.ensures.total (entries_fit c.args.queue.now) (lines c.args.rules.now c.args.outputs.now).rules.fits (lines c.args.rules.now c.args.outputs.now).outputs.fits, refl, refl, refl, refl)
 
 pub overflow_add-start : goal.overflow_add-start
 overflow_add-start g c =
@@ -46,61 +47,59 @@ add_line-requires g c =
     let I = c.loop-rule.invariant in
     let r = c.rule-item.result in
     let nth = slice_get_read c.args.first.now.draft.rules.now _ c.loop-rule.rule-index r refl c.loop-rule-test.true c.rule-item.is in
-    let took = I.0.took in
-    let rl = rules_long _ _ _ _ _ _ _ took.2 in
-    let ol = outputs_long _ _ _ _ _ _ _ took.2 in
     let sound = sound_from_checked g.A.Alphabet.model g.A.Alphabet.laws (table_of c.args.first.now.draft) c.args.first.now.sound in
     record {
       guard = sound.guard c.loop-rule.rule-index r nth;
-      fits = omega (arith, took.1, I.1);
       few = omega (arith, c.requires.few, I.1);
       path = simp length-take (omega (arith, sound.short_output c.loop-rule.rule-index r nth, c.requires.path));
-      rules = omega (arith, took.2.rule_count, took.2.fits.rules_fit);
-      outputs = omega (arith, took.2.output_count, took.2.fits.outputs_fit);
     }
 
-pub returns-in_err-so_far : goal.returns-in_err-so_far
-returns-in_err-so_far g c =
+pub returns-in_err-add_line : goal.returns-in_err-add_line
+returns-in_err-add_line g c =
     let I = c.loop-rule.invariant in
     let r = c.rule-item.result in
     let start = c.loop-rule.start in
     let O = c.args.first.now.draft.outputs.now in
     let size : (start + r.outputs) - start ≡ r.outputs = omega arith in
     let here : eqb r.state c.args.pair.0 ≡ true = grind (arith, nat_tests) in
-    let over = c.in_err-so_far.ensures.takes in
+    let over = c.in_err-add_line.ensures.takes in
     let e = err_from_is_err_and c.from_residual.result c.from_residual.ensures.1 in
     record {
       takes = rw e.1 (walking_refused _ _ _ _ _ _ _ _ _ _ _ _ _ _ _ _ I.0 r c.loop-rule-test.true c.rule-item.is (take ((start + r.outputs) - start) (drop start O)) (ap (λ n. take n (drop start O)) size) here
           (λ low. over (omega (arith, low, I.1))));
       taken = c.add_line.ensures.taken ∙ I.2;
       room = c.add_line.ensures.room ∙ I.1;
+      same_rules = c.add_line.ensures.same_rules ∙ I.3;
+      same_outputs = c.add_line.ensures.same_outputs ∙ I.4;
     }
 
 pub loop-rule-preserved : goal.loop-rule-preserved
 loop-rule-preserved g c = elim c.if-rule-pair.branch [
-  | then-rule-pair+in_ok-so_far w ↦
+  | then-rule-pair+in_ok-add_line w ↦
       let I = c.loop-rule.invariant in
       let r = c.rule-item.result in
       let start = c.loop-rule.start in
       let O = c.args.first.now.draft.outputs.now in
       let size : (start + r.outputs) - start ≡ r.outputs = omega arith in
       let here : eqb r.state c.args.pair.0 ≡ true = grind (arith, nat_tests) in
-      let t = w.in_ok-so_far.ensures.takes in
-      rw (w.queue-is, w.rules-is, w.outputs-is, w.so_far-is) (
+      let t = w.in_ok-add_line.ensures.takes in
+      rw (w.queue-is, w.rules-is, w.outputs-is) (
         walking_on _ _ _ _ _ _ _ _ _ _ _ _ _ _ _ _ I.0 r c.loop-rule-test.true c.rule-item.is (take ((start + r.outputs) - start) (drop start O)) (ap (λ n. take n (drop start O)) size) here
             _ _ _ _ (t.0, omega (arith, t.1, I.1), t.2),
         w.add_line.ensures.room ∙ I.1,
         w.add_line.ensures.taken ∙ I.2,
+        w.add_line.ensures.same_rules ∙ I.3,
+        w.add_line.ensures.same_outputs ∙ I.4,
       )
   | else-rule-pair w ↦
       let I = c.loop-rule.invariant in
       let other : eqb c.rule-item.result.state c.args.pair.0 ≡ false = grind (arith, nat_tests) in
-      rw (w.queue-is, w.rules-is, w.outputs-is, w.so_far-is)
-      (walking_skip _ _ _ _ _ _ _ _ _ _ _ _ _ _ _ _ I.0 c.rule-item.result c.loop-rule-test.true c.rule-item.is other, I.1, I.2)
+      rw (w.queue-is, w.rules-is, w.outputs-is)
+      (walking_skip _ _ _ _ _ _ _ _ _ _ _ _ _ _ _ _ I.0 c.rule-item.result c.loop-rule-test.true c.rule-item.is other, I.1, I.2, I.3, I.4)
 ]
 
 pub returns : goal.returns
 returns g c =
     let I = c.loop-rule.invariant in
     let t = walking_end _ _ _ _ _ _ _ _ _ _ _ _ _ _ _ _ I.0 c.loop-rule-test.false in
-    record { takes = t; taken = I.2; room = I.1 }
+    record { takes = t; taken = I.2; room = I.1; same_rules = I.3; same_outputs = I.4 }

@@ -4,8 +4,7 @@ use Rattle.queue.specs.Held.{entries, room}
 use Rattle.table.specs.Table.{table_of}
 use Rattle.join_laws.specs.Pairs.{met_all}
 use Rattle.join_laws.specs.Joined.{numbered, ways_at}
-use Rattle.join_ways.specs.Added.{Fits}
-use Rattle.join_ways.proofs.Adds.{rules_long, outputs_long}
+use Rattle.join_ways.specs.Added.{lines, Fits, counts}
 use Rattle.join_rules.specs.PairRules.{targets}
 use Rattle.join_rules.proofs.Walkings.{Took}
 use Rattle.join_rules.proofs.Explorings.{Exploring, exploring_start, exploring_end, exploring_next, exploring_refused}
@@ -15,8 +14,8 @@ use Rattle.join_rules.proofs.explore.Goals as goal
 pub loop-number-init : goal.loop-number-init
 loop-number-init g c =
     let m = g.A.Alphabet.model in
-    let start = exploring_start m g.A.Alphabet.laws (table_of c.args.first.now.draft) (table_of c.args.second.now.draft) (sound_from_checked g.A.Alphabet.model g.A.Alphabet.laws (table_of c.args.first.now.draft) c.args.first.now.sound) (sound_from_checked g.A.Alphabet.model g.A.Alphabet.laws (table_of c.args.second.now.draft) c.args.second.now.sound) (room c.args.queue.now) c.args.rules.now c.args.outputs.now c.requires.fits in
-    (rw (c.requires.start, c.requires.waits) start, refl)
+    let start = exploring_start m g.A.Alphabet.laws (table_of c.args.first.now.draft) (table_of c.args.second.now.draft) (sound_from_checked g.A.Alphabet.model g.A.Alphabet.laws (table_of c.args.first.now.draft) c.args.first.now.sound) (sound_from_checked g.A.Alphabet.model g.A.Alphabet.laws (table_of c.args.second.now.draft) c.args.second.now.sound) (room c.args.queue.now) (counts (lines c.args.rules.now c.args.outputs.now)) (lines c.args.rules.now c.args.outputs.now).rules.items.now (lines c.args.rules.now c.args.outputs.now).outputs.items.now c.requires.fits (lines c.args.rules.now c.args.outputs.now).rules.fits (lines c.args.rules.now c.args.outputs.now).outputs.fits in
+    (rw (c.requires.start, c.requires.waits) start, refl, refl, refl)
 
 pub overflow_cast-number : goal.overflow_cast-number
 overflow_cast-number g c =
@@ -28,18 +27,13 @@ pub add_pair-requires : goal.add_pair-requires
 add_pair-requires g c =
     let I = c.loop-number.invariant in
     let e = c.in-Some.ensures in
-    let rl = rules_long _ _ _ _ _ _ _ I.0.added in
-    let ol = outputs_long _ _ _ _ _ _ _ I.0.added in
     record {
-      fits = omega (arith, ap length e.entries, e.room, I.0.low, I.1);
       few = omega (arith, e.room, I.1, c.requires.few);
       path = omega (arith, c.requires.path);
-      rules = omega (arith, I.0.added.rule_count, I.0.added.fits.rules_fit);
-      outputs = omega (arith, I.0.added.output_count, I.0.added.fits.outputs_fit);
     }
 
-pub returns-in_err-counts : goal.returns-in_err-counts
-returns-in_err-counts g c =
+pub returns-in_err-add_pair : goal.returns-in_err-add_pair
+returns-in_err-add_pair g c =
     let m = g.A.Alphabet.model in
     let F = table_of c.args.first.now.draft in
     let H = table_of c.args.second.now.draft in
@@ -51,14 +45,16 @@ returns-in_err-counts g c =
     let ws = ways_at m F H c.in-Some.pair in
     let h : k < length P = omega (arith, n.0, n.1) in
     let is = n.2 (0, 0) ∙ ap (λ i. get_or P i (0, 0)) n.0 in
-    let over = c.in_err-counts.ensures.takes in
+    let over = c.in_err-add_pair.ensures.takes in
     let r = err_from_is_err_and c.from_residual.result c.from_residual.ensures.1 in
-    let over₁ = subst (λ Q. length (met_all Q (targets ws)) ≤ room c.next.new.self → Fits c.loop-number.counts (map (numbered (met_all Q (targets ws)) c.in-Some.number) ws) c.loop-number.rules c.loop-number.outputs → ⊥) e.entries over in
-    let over₂ = subst (λ i. length (met_all P (targets ws)) ≤ room c.next.new.self → Fits c.loop-number.counts (map (numbered (met_all P (targets ws)) i) ws) c.loop-number.rules c.loop-number.outputs → ⊥) n.0 over₁ in
+    let over₁ = subst (λ Q. length (met_all Q (targets ws)) ≤ room c.next.new.self → Fits (counts (lines c.loop-number.rules c.loop-number.outputs)) (map (numbered (met_all Q (targets ws)) c.in-Some.number) ws) (lines c.loop-number.rules c.loop-number.outputs).rules.items.now (lines c.loop-number.rules c.loop-number.outputs).outputs.items.now → ⊥) e.entries over in
+    let over₂ = subst (λ i. length (met_all P (targets ws)) ≤ room c.next.new.self → Fits (counts (lines c.loop-number.rules c.loop-number.outputs)) (map (numbered (met_all P (targets ws)) i) ws) (lines c.loop-number.rules c.loop-number.outputs).rules.items.now (lines c.loop-number.rules c.loop-number.outputs).outputs.items.now → ⊥) n.0 over₁ in
     record {
-      explores = rw r.1 (exploring_refused m g.A.Alphabet.laws F H (sound_from_checked g.A.Alphabet.model g.A.Alphabet.laws (table_of c.args.first.now.draft) c.args.first.now.sound) (sound_from_checked g.A.Alphabet.model g.A.Alphabet.laws (table_of c.args.second.now.draft) c.args.second.now.sound) (room c.args.queue.now) c.args.rules.now c.args.outputs.now k P c.loop-number.counts c.loop-number.rules c.loop-number.outputs I.0 c.in-Some.pair h is
+      explores = rw r.1 (exploring_refused m g.A.Alphabet.laws F H (sound_from_checked g.A.Alphabet.model g.A.Alphabet.laws (table_of c.args.first.now.draft) c.args.first.now.sound) (sound_from_checked g.A.Alphabet.model g.A.Alphabet.laws (table_of c.args.second.now.draft) c.args.second.now.sound) (room c.args.queue.now) (counts (lines c.args.rules.now c.args.outputs.now)) (lines c.args.rules.now c.args.outputs.now).rules.items.now (lines c.args.rules.now c.args.outputs.now).outputs.items.now k P (counts (lines c.loop-number.rules c.loop-number.outputs)) (lines c.loop-number.rules c.loop-number.outputs).rules.items.now (lines c.loop-number.rules c.loop-number.outputs).outputs.items.now I.0 c.in-Some.pair h is
           (λ low. over₂ (omega (arith, low, e.room, I.1))));
       room = c.add_pair.ensures.room ∙ e.room ∙ I.1;
+      same_rules = c.add_pair.ensures.same_rules ∙ I.2;
+      same_outputs = c.add_pair.ensures.same_outputs ∙ I.3;
     }
 
 pub loop-number-preserved : goal.loop-number-preserved
@@ -74,17 +70,19 @@ loop-number-preserved g c =
     let ws = ways_at m F H c.in-Some.pair in
     let h : k < length P = omega (arith, n.0, n.1) in
     let is = n.2 (0, 0) ∙ ap (λ i. get_or P i (0, 0)) n.0 in
-    let t = c.in_ok-counts.ensures.takes in
-    let d = c.in_ok-counts.counts in
+    let t = c.in_ok-add_pair.ensures.takes in
+    let d = counts (lines c.add_pair.new.rules c.add_pair.new.outputs) in
     let P₂ = entries c.add_pair.new.queue in
-    let R₂ = c.add_pair.new.rules in
-    let O₂ = c.add_pair.new.outputs in
-    let took : Took c.in-Some.number ws P (room c.args.queue.now) c.loop-number.counts d c.loop-number.rules c.loop-number.outputs P₂ R₂ O₂ =
+    let R₂ = (lines c.add_pair.new.rules c.add_pair.new.outputs).rules.items.now in
+    let O₂ = (lines c.add_pair.new.rules c.add_pair.new.outputs).outputs.items.now in
+    let took : Took c.in-Some.number ws P (room c.args.queue.now) (counts (lines c.loop-number.rules c.loop-number.outputs)) d (lines c.loop-number.rules c.loop-number.outputs).rules.items.now (lines c.loop-number.rules c.loop-number.outputs).outputs.items.now P₂ R₂ O₂ =
     (t.0 ∙ ap (λ l. met_all l (targets ws)) e.entries, omega (arith, t.1, e.room, I.1), t.2) in
-    let next = exploring_next m g.A.Alphabet.laws F H (sound_from_checked g.A.Alphabet.model g.A.Alphabet.laws (table_of c.args.first.now.draft) c.args.first.now.sound) (sound_from_checked g.A.Alphabet.model g.A.Alphabet.laws (table_of c.args.second.now.draft) c.args.second.now.sound) (room c.args.queue.now) c.args.rules.now c.args.outputs.now k P c.loop-number.counts c.loop-number.rules c.loop-number.outputs I.0 c.in-Some.pair h is d P₂ R₂ O₂
-    (subst (λ i. Took i ws P (room c.args.queue.now) c.loop-number.counts d c.loop-number.rules c.loop-number.outputs P₂ R₂ O₂) n.0 took) in (
-      subst (λ i. Exploring m F H (room c.args.queue.now) c.args.rules.now c.args.outputs.now i P₂ d R₂ O₂) (sym (c.add_pair.ensures.taken ∙ e.taken)) next,
+    let next = exploring_next m g.A.Alphabet.laws F H (sound_from_checked g.A.Alphabet.model g.A.Alphabet.laws (table_of c.args.first.now.draft) c.args.first.now.sound) (sound_from_checked g.A.Alphabet.model g.A.Alphabet.laws (table_of c.args.second.now.draft) c.args.second.now.sound) (room c.args.queue.now) (counts (lines c.args.rules.now c.args.outputs.now)) (lines c.args.rules.now c.args.outputs.now).rules.items.now (lines c.args.rules.now c.args.outputs.now).outputs.items.now k P (counts (lines c.loop-number.rules c.loop-number.outputs)) (lines c.loop-number.rules c.loop-number.outputs).rules.items.now (lines c.loop-number.rules c.loop-number.outputs).outputs.items.now I.0 c.in-Some.pair h is d P₂ R₂ O₂
+    (subst (λ i. Took i ws P (room c.args.queue.now) (counts (lines c.loop-number.rules c.loop-number.outputs)) d (lines c.loop-number.rules c.loop-number.outputs).rules.items.now (lines c.loop-number.rules c.loop-number.outputs).outputs.items.now P₂ R₂ O₂) n.0 took) in (
+      subst (λ i. Exploring m F H (room c.args.queue.now) (counts (lines c.args.rules.now c.args.outputs.now)) (lines c.args.rules.now c.args.outputs.now).rules.items.now (lines c.args.rules.now c.args.outputs.now).outputs.items.now i P₂ d R₂ O₂) (sym (c.add_pair.ensures.taken ∙ e.taken)) next,
       c.add_pair.ensures.room ∙ e.room ∙ I.1,
+      c.add_pair.ensures.same_rules ∙ I.2,
+      c.add_pair.ensures.same_outputs ∙ I.3,
     )
 
 pub returns : goal.returns
@@ -94,8 +92,10 @@ returns g c =
     let H = table_of c.args.second.now.draft in
     let I = c.loop-number.invariant in
     let e = c.in_default.ensures in
-    let done = exploring_end m g.A.Alphabet.laws F H (sound_from_checked g.A.Alphabet.model g.A.Alphabet.laws (table_of c.args.first.now.draft) c.args.first.now.sound) (sound_from_checked g.A.Alphabet.model g.A.Alphabet.laws (table_of c.args.second.now.draft) c.args.second.now.sound) (room c.args.queue.now) c.args.rules.now c.args.outputs.now c.loop-number.queue.taken (entries c.loop-number.queue) c.loop-number.counts c.loop-number.rules c.loop-number.outputs I.0 (omega (arith, e.answer)) in
+    let done = exploring_end m g.A.Alphabet.laws F H (sound_from_checked g.A.Alphabet.model g.A.Alphabet.laws (table_of c.args.first.now.draft) c.args.first.now.sound) (sound_from_checked g.A.Alphabet.model g.A.Alphabet.laws (table_of c.args.second.now.draft) c.args.second.now.sound) (room c.args.queue.now) (counts (lines c.args.rules.now c.args.outputs.now)) (lines c.args.rules.now c.args.outputs.now).rules.items.now (lines c.args.rules.now c.args.outputs.now).outputs.items.now c.loop-number.queue.taken (entries c.loop-number.queue) (counts (lines c.loop-number.rules c.loop-number.outputs)) (lines c.loop-number.rules c.loop-number.outputs).rules.items.now (lines c.loop-number.rules c.loop-number.outputs).outputs.items.now I.0 (omega (arith, e.answer)) in
     record {
       explores = (e.entries ∙ done.0, omega (arith, ap length e.entries, I.0.low), done.1);
       room = e.room ∙ I.1;
+      same_rules = I.2;
+      same_outputs = I.3;
     }
