@@ -1,9 +1,8 @@
 // Two byte filters joined into memory of its own.
 ghost use Rattle.std.specs.Prelude.{◌≡◌, ◌≤◌, true, length, if◌then◌else◌, vec_len};
 ghost use Rattle.table.specs.Table.{table_of};
-ghost use Rattle.table.specs.Sound.{Sound};
 ghost use Rattle.range_laws.specs.Ranges.{ranges};
-ghost use Rattle.exports.specs.declared.joining.JoinFault.TheVariants.{NoMemory};
+ghost use Rattle.exports.specs.declared.joining.JoinFault.TheVariants.{TooLarge as OverLimit, NoMemory};
 ghost use Rattle.exports.specs.Joins.{Composed, has_room_lem, join_answer_lem, begun, Listed};
 ghost use Rattle.exports.specs.Answers.{answer};
 ghost use Rattle.exports.specs.Flats.{flat_state, flat_rule, flat_term};
@@ -12,9 +11,10 @@ use crate::answer::{Answer, Kind, NO_MEMORY, answer_of, refused};
 use crate::flat::{FlatRule, FlatState, FlatTerm, spread};
 use crate::owned::Owned;
 use join::join;
+use join_ways::TooLarge;
 use ranges::{Bytes, Range, RangeTerm};
 use std::alloc::{AllocError, Global};
-use table::{Draft, Rule, State, TableFault};
+use table::{Draft, Filter, Rule, State, TableFault};
 
 // Why two filters are not joined.
 #[derive(Drop)]
@@ -37,6 +37,14 @@ impl From<AllocError> for JoinFault {
     }
 }
 
+impl From<TooLarge> for JoinFault {
+    ghost from_gives = { λ _ r. r ≡ OverLimit };
+
+    fn from(_fault: TooLarge) -> JoinFault {
+        JoinFault::TooLarge
+    }
+}
+
 const STATE: State = State { mark: 0, finals: 0 };
 
 const RULE: Rule<Range> = Rule {
@@ -48,30 +56,26 @@ const RULE: Rule<Range> = Rule {
 
 const TERM: RangeTerm = RangeTerm::Constant(0);
 
-// The joined filter of two sound ones.
+// The joined filter of two.
 fn join_sound<'x>(
     heap: Global,
-    first: &'x Draft<'x, Bytes>,
-    second: &'x Draft<'x, Bytes>,
+    first: &'x Filter<'x, Bytes>,
+    second: &'x Filter<'x, Bytes>,
 ) -> Result<Owned, JoinFault>
-    requires first { Sound (ranges 256) (table_of first.now) }
-    requires second { Sound (ranges 256) (table_of second.now) }
-    ensures { Composed (table_of first.now) (table_of second.now) result }
+    ensures { Composed (table_of first.now.draft) (table_of second.now.draft) result }
 {
     let mut states = vec![in heap; STATE; 64]?;
     let mut rules = vec![in heap; RULE; 1024]?;
     let mut outputs = vec![in heap; TERM; 4096]?;
     let mut pairs = vec![in heap; (0u16, 0u16); 64]?;
-    let Ok(sizes) = join(
+    let sizes = join(
         first,
         second,
         states.as_mut_slice(),
         rules.as_mut_slice(),
         outputs.as_mut_slice(),
         pairs.as_mut_slice(),
-    ) else {
-        return Err(JoinFault::TooLarge);
-    };
+    )?;
     states.truncate(sizes.states);
     rules.truncate(sizes.rules);
     outputs.truncate(sizes.outputs);
@@ -90,13 +94,9 @@ pub fn join_drafts<'x>(
 ) -> Result<Owned, JoinFault>
     ensures { Composed (table_of first.now) (table_of second.now) result }
 {
-    if let Err(fault) = first.check() {
-        return Err(JoinFault::First(fault));
-    }
-    if let Err(fault) = second.check() {
-        return Err(JoinFault::Second(fault));
-    }
-    join_sound(heap, first, second)
+    let first = Filter::new(*first).map_err(JoinFault::First)?;
+    let second = Filter::new(*second).map_err(JoinFault::Second)?;
+    join_sound(heap, &first, &second)
 }
 
 // Writes a table to the front of three lists, which have room for it.

@@ -1,12 +1,10 @@
 // A join written into memory of its own.
-ghost use Rattle.table.specs.Table.{table_of};
-ghost use Rattle.table.specs.Sound.{Sound};
-
 use alphabet::Alphabet;
 use join::join;
 use join_pairs::Pair;
+use join_ways::TooLarge;
 use std::alloc::{AllocError, Global};
-use table::{Draft, Rule, State};
+use table::{Draft, Filter, Rule, State, TableFault};
 
 // How long the lists for a joined filter are.
 #[derive(Clone, Copy)]
@@ -32,65 +30,74 @@ pub enum NoJoin {
     NoMemory,
 }
 
+impl From<TableFault> for NoJoin {
+    fn from(_fault: TableFault) -> NoJoin {
+        NoJoin::Unsound
+    }
+}
+
+impl From<TooLarge> for NoJoin {
+    fn from(_fault: TooLarge) -> NoJoin {
+        NoJoin::TooLarge
+    }
+}
+
 impl From<AllocError> for NoJoin {
     fn from(_fault: AllocError) -> NoJoin {
         NoJoin::NoMemory
     }
 }
 
+// A table in memory of its own.
 #[derive(Drop)]
-pub struct Joined<G: Copy, T: Copy> {
+pub struct Owned<A: Alphabet> {
     pub states: Vec<State>,
-    pub rules: Vec<Rule<G>>,
-    pub outputs: Vec<T>,
+    pub rules: Vec<Rule<A::Guard>>,
+    pub outputs: Vec<A::Term>,
 }
 
-fn filled<T: Copy>(heap: Global, item: T, count: usize) -> Result<Vec<T>, AllocError> {
-    let mut list = Vec::new(heap);
-    for _ in 0..count {
-        list.push(item)?;
+impl<A: Alphabet> Owned<A> {
+    pub fn draft(&self) -> Draft<'_, A> {
+        Draft {
+            states: self.states.as_slice(),
+            rules: self.rules.as_slice(),
+            outputs: self.outputs.as_slice(),
+        }
     }
-    Ok(list)
 }
 
-// Joins two sound filters into lists of these lengths, which begin filled with one rule and one term.
+// Joins two filters into lists of these lengths, which begin filled with one rule and one term.
 fn join_sound<'x, A: Alphabet>(
     heap: Global,
-    first: &'x Draft<'x, A>,
-    second: &'x Draft<'x, A>,
+    first: &'x Filter<'x, A>,
+    second: &'x Filter<'x, A>,
     room: Room,
     rule: Rule<A::Guard>,
     term: A::Term,
-) -> Result<Joined<A::Guard, A::Term>, NoJoin>
-    requires first { Sound A.model (table_of first.now) }
-    requires second { Sound A.model (table_of second.now) }
-{
-    let mut states = filled(heap, State { mark: 0, finals: 0 }, room.states)?;
-    let mut rules = filled(heap, rule, room.rules)?;
-    let mut outputs = filled(heap, term, room.outputs)?;
-    let mut pairs: Vec<Pair> = filled(heap, (0, 0), room.pairs)?;
-    let answer = join(
+) -> Result<Owned<A>, NoJoin> {
+    let mut states = vec![in heap; State { mark: 0, finals: 0 }; room.states]?;
+    let mut rules = vec![in heap; rule; room.rules]?;
+    let mut outputs = vec![in heap; term; room.outputs]?;
+    let mut pairs: Vec<Pair> = vec![in heap; (0, 0); room.pairs]?;
+    let sizes = join(
         first,
         second,
         states.as_mut_slice(),
         rules.as_mut_slice(),
         outputs.as_mut_slice(),
         pairs.as_mut_slice(),
-    );
-    let Ok(sizes) = answer else {
-        return Err(NoJoin::TooLarge);
-    };
+    )?;
     states.truncate(sizes.states);
     rules.truncate(sizes.rules);
     outputs.truncate(sizes.outputs);
-    Ok(Joined {
+    Ok(Owned {
         states,
         rules,
         outputs,
     })
 }
 
-// The same for any two filters.
+// The same for any two drafts.
 pub fn join_into<'x, A: Alphabet>(
     heap: Global,
     first: &'x Draft<'x, A>,
@@ -98,12 +105,8 @@ pub fn join_into<'x, A: Alphabet>(
     room: Room,
     rule: Rule<A::Guard>,
     term: A::Term,
-) -> Result<Joined<A::Guard, A::Term>, NoJoin> {
-    if let Err(_) = first.check() {
-        return Err(NoJoin::Unsound);
-    }
-    if let Err(_) = second.check() {
-        return Err(NoJoin::Unsound);
-    }
-    join_sound(heap, first, second, room, rule, term)
+) -> Result<Owned<A>, NoJoin> {
+    let first = Filter::new(*first)?;
+    let second = Filter::new(*second)?;
+    join_sound(heap, &first, &second, room, rule, term)
 }

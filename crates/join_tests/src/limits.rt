@@ -1,20 +1,12 @@
 // Joins at the limits: states, rules and the outputs of one rule.
-use crate::joined::{ENOUGH, NoJoin, join_into};
+use crate::joined::{ENOUGH, NoJoin, Owned, join_into};
 use crate::samples::{BYTE_RULE, BYTE_TERM};
 use ranges::{Bytes, Range, RangeTerm};
 use std::alloc::{AllocError, Global};
 use std::test::Fail;
-use table::{Draft, Rule, State};
+use table::{Rule, State};
 
-// A table in memory of its own.
-#[derive(Drop)]
-struct Owned {
-    states: Vec<State>,
-    rules: Vec<Rule<Range>>,
-    outputs: Vec<RangeTerm>,
-}
-
-fn empty(heap: Global) -> Owned {
+fn empty(heap: Global) -> Owned<Bytes> {
     Owned {
         states: Vec::new(heap),
         rules: Vec::new(heap),
@@ -24,7 +16,7 @@ fn empty(heap: Global) -> Owned {
 
 // One rule more, which copies its symbol some times.
 fn add(
-    table: &mut Owned,
+    table: &mut Owned<Bytes>,
     state: u16,
     next: u16,
     low: u32,
@@ -44,7 +36,7 @@ fn add(
 }
 
 // A cycle of accepting states over the letter a, which is copied some times.
-fn cycle(heap: Global, count: u16, times: u16) -> Result<Owned, AllocError> {
+fn cycle(heap: Global, count: u16, times: u16) -> Result<Owned<Bytes>, AllocError> {
     let mut table = empty(heap);
     for state in 0..count {
         table.states.push(State { mark: 1, finals: 0 })?;
@@ -56,7 +48,7 @@ fn cycle(heap: Global, count: u16, times: u16) -> Result<Owned, AllocError> {
 
 // A cycle of states, each with a rule for 0 and 1 together and one for every symbol from 2 to 255; and `more` states
 // with one rule.
-fn wide(heap: Global, count: u16, more: u16) -> Result<Owned, AllocError> {
+fn wide(heap: Global, count: u16, more: u16) -> Result<Owned<Bytes>, AllocError> {
     let mut table = empty(heap);
     let all = count.saturating_add(more);
     for state in 0..all {
@@ -75,7 +67,7 @@ fn wide(heap: Global, count: u16, more: u16) -> Result<Owned, AllocError> {
 }
 
 // Copies, by one rule for 0 and one for the rest.
-fn split(heap: Global) -> Result<Owned, AllocError> {
+fn split(heap: Global) -> Result<Owned<Bytes>, AllocError> {
     let mut table = empty(heap);
     table.states.push(State { mark: 1, finals: 0 })?;
     add(&mut table, 0, 0, 0, 0, 1)?;
@@ -84,17 +76,8 @@ fn split(heap: Global) -> Result<Owned, AllocError> {
 }
 
 // Whether two tables are joined, or too large to be; none where something else is wrong.
-fn fits(heap: Global, one: &Owned, other: &Owned) -> Option<bool> {
-    let first: Draft<'_, Bytes> = Draft {
-        states: one.states.as_slice(),
-        rules: one.rules.as_slice(),
-        outputs: one.outputs.as_slice(),
-    };
-    let second: Draft<'_, Bytes> = Draft {
-        states: other.states.as_slice(),
-        rules: other.rules.as_slice(),
-        outputs: other.outputs.as_slice(),
-    };
+fn fits(heap: Global, one: &Owned<Bytes>, other: &Owned<Bytes>) -> Option<bool> {
+    let (first, second) = (one.draft(), other.draft());
     match join_into(heap, &first, &second, ENOUGH, BYTE_RULE, BYTE_TERM) {
         Ok(_) => Some(true),
         Err(NoJoin::TooLarge) => Some(false),

@@ -1,12 +1,11 @@
 // What joins do, and when they are refused.
-use crate::joined::{ENOUGH, Joined, NoJoin, Room, join_into};
+use crate::joined::{ENOUGH, NoJoin, Room, join_into};
 use crate::samples;
 use crate::samples::{BYTE_RULE, BYTE_TERM, MARK_RULE, MARK_TERM};
 use builtin::bytes::{escape, lower};
 use cleaning::clean;
 use comparing::compare_drafts;
 use filter::Outcome;
-use marks::Marks;
 use ranges::{Bytes, Range, RangeTerm};
 use std::alloc::{AllocError, Global};
 use std::test::Fail;
@@ -22,11 +21,7 @@ fn joins_to<'x>(
     let Ok(joined) = join_into(heap, first, second, ENOUGH, BYTE_RULE, BYTE_TERM) else {
         return false;
     };
-    let draft: Draft<'_, Bytes> = Draft {
-        states: joined.states.as_slice(),
-        rules: joined.rules.as_slice(),
-        outputs: joined.outputs.as_slice(),
-    };
+    let draft = joined.draft();
     match compare_drafts(heap, &draft, third) {
         Ok(None) => true,
         _ => false,
@@ -44,11 +39,7 @@ fn join_writes<'x>(
     let Ok(joined) = join_into(heap, first, second, ENOUGH, BYTE_RULE, BYTE_TERM) else {
         return false;
     };
-    let draft: Draft<'_, Bytes> = Draft {
-        states: joined.states.as_slice(),
-        rules: joined.rules.as_slice(),
-        outputs: joined.outputs.as_slice(),
-    };
+    let draft = joined.draft();
     match clean(heap, &draft, text) {
         Ok((Outcome::Written { .. }, out)) => out.as_slice() == expected,
         _ => false,
@@ -93,11 +84,7 @@ fn turns_of_marks(rt: HostRuntime) -> Result<(), Fail> {
     let back = samples::turn_back();
     match join_into(heap, &there, &back, ENOUGH, MARK_RULE, MARK_TERM) {
         Ok(joined) => {
-            let draft: Draft<'_, Marks> = Draft {
-                states: joined.states.as_slice(),
-                rules: joined.rules.as_slice(),
-                outputs: joined.outputs.as_slice(),
-            };
+            let draft = joined.draft();
             match compare_drafts(heap, &draft, &samples::copy_marks()) {
                 Ok(None) => Ok(()),
                 _ => Err(Fail::new("the turns do not undo each other")),
@@ -149,21 +136,14 @@ fn lists_too_short(rt: HostRuntime) -> Result<(), Fail> {
     let heap = rt.alloc();
     let first = lower();
     let second = escape();
-    let Ok(
-        Joined {
-            states,
-            rules,
-            outputs,
-        },
-    ) = join_into(heap, &first, &second, ENOUGH, BYTE_RULE, BYTE_TERM)
-    else {
+    let Ok(joined) = join_into(heap, &first, &second, ENOUGH, BYTE_RULE, BYTE_TERM) else {
         return Err(Fail::new("not joined"));
     };
     let exact = Room {
-        states: states.len(),
-        rules: rules.len(),
-        outputs: outputs.len(),
-        pairs: states.len(),
+        states: joined.states.len(),
+        rules: joined.rules.len(),
+        outputs: joined.outputs.len(),
+        pairs: joined.states.len(),
     };
     assert!(rt; !too_large(heap, &first, &second, exact));
     assert!(rt; exact.states > 0 && exact.rules > 0 && exact.outputs > 0);
@@ -271,11 +251,7 @@ fn many_texts(rt: HostRuntime) -> Result<(), Fail> {
     let Ok(joined) = join_into(heap, &first, &second, ENOUGH, BYTE_RULE, BYTE_TERM) else {
         return Err(Fail::new("not joined"));
     };
-    let draft: Draft<'_, Bytes> = Draft {
-        states: joined.states.as_slice(),
-        rules: joined.rules.as_slice(),
-        outputs: joined.outputs.as_slice(),
-    };
+    let draft = joined.draft();
     for a in 0..16u32 {
         for b in 0..16u32 {
             for c in 0..16u32 {

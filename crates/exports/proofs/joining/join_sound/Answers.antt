@@ -23,15 +23,15 @@ returns-in_err-pairs c =
 
 pub returns : goal.returns
 returns c =
-    let J = joined (ranges 256) (table_of c.args.first.now) (table_of c.args.second.now) in
-    let B = c.in-Ok.ensures.joins in
+    let J = joined (ranges 256) (table_of c.args.first.now.draft) (table_of c.args.second.now.draft) in
+    let B = c.in_ok-sizes.ensures.joins in
     let states =
     c.truncate.ensures.items
-    ∙ cut_is J.states c.as_mut_slice.result.now c.join.new.states c.in_ok-states.states.items c.in_ok-states.states.len c.in-Ok.sizes.states (c.join.auto.states ∙ c.as_mut_slice.ensures.len) B.states_are B.state_count in
+    ∙ cut_is J.states c.as_mut_slice.result.now c.join.new.states c.in_ok-states.states.items c.in_ok-states.states.len c.in_ok-sizes.sizes.states (c.join.auto.states ∙ c.as_mut_slice.ensures.len) B.states_are B.state_count in
     let rules =
     c.truncate-2.ensures.items
-    ∙ cut_is J.rules c.as_mut_slice-2.result.now c.join.new.rules c.in_ok-rules.rules.items c.in_ok-rules.rules.len c.in-Ok.sizes.rules (c.join.auto.rules ∙ c.as_mut_slice-2.ensures.len) B.rules_are B.rule_count in
+    ∙ cut_is J.rules c.as_mut_slice-2.result.now c.join.new.rules c.in_ok-rules.rules.items c.in_ok-rules.rules.len c.in_ok-sizes.sizes.rules (c.join.auto.rules ∙ c.as_mut_slice-2.ensures.len) B.rules_are B.rule_count in
     let outputs =
     c.truncate-3.ensures.items
-    ∙ cut_is J.outputs c.as_mut_slice-3.result.now c.join.new.outputs c.in_ok-outputs.outputs.items c.in_ok-outputs.outputs.len c.in-Ok.sizes.outputs (c.join.auto.outputs ∙ c.as_mut_slice-3.ensures.len) B.outputs_are B.output_count in
+    ∙ cut_is J.outputs c.as_mut_slice-3.result.now c.join.new.outputs c.in_ok-outputs.outputs.items c.in_ok-outputs.outputs.len c.in_ok-sizes.sizes.outputs (c.join.auto.outputs ∙ c.as_mut_slice-3.ensures.len) B.outputs_are B.output_count in
     table_is J (vec_items c.truncate.new.self) (vec_items c.truncate-2.new.self) (vec_items c.truncate-3.new.self) states rules outputs
