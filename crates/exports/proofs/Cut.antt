@@ -4,6 +4,10 @@ use Rattle.std.proofs.lemmas.List.{take_at, append_assoc, length-map, length-tak
 use Rattle.table.specs.declared.entries.State.{State}
 use Rattle.table.specs.declared.entries.Rule.{Rule}
 use Rattle.table.specs.Table.{Table}
+use Rattle.range_laws.specs.declared.Range.{Range}
+use Rattle.range_laws.specs.declared.RangeTerm.{RangeTerm}
+use Rattle.join_laws.specs.Theorems.{Limited}
+use Rattle.join.specs.Filled.{Roomy}
 
 pub cut_is : {X : Type 0} (J before after items : List X) (len n : ℕ) → length after ≡ len → after ≡ J ++ drop (length J) before → n ≡ length J → take n (take len (after ++ drop (length after) items)) ≡ J
 cut_is J before after items len n whole is count =
@@ -28,3 +32,14 @@ one_more f xs ys i x y below room read =
     ∙ ap (λ v. map f (take i xs) ++ v ∷ drop (i + 1) ys) (ap f read)
     ∙ sym (append_assoc (map f (take i xs)) (f (get_or xs i x) ∷ []) (drop (i + 1) ys))
     ∙ ap (λ l. l ++ drop (i + 1) ys) (sym (map_more f xs i x below))
+
+-- a table within the limits has room in lists that are as long as the limits
+pub all_fit : (J : Table Range RangeTerm) (pairs : ℕ) (states : List State) (rules : List (Rule Range)) (outputs : List RangeTerm) → Limited J
+    → pairs ≡ 64 → length states ≡ 64 → length rules ≡ 1024 → length outputs ≡ 4096 → Roomy J pairs states rules outputs
+all_fit J pairs states rules outputs limited p s r o = record {
+  limited = limited;
+  pairs_fit = omega (arith, limited.states);
+  states_fit = omega (arith, limited.states);
+  rules_fit = omega (arith, limited.rules);
+  outputs_fit = omega (arith, limited.outputs);
+}

@@ -3,7 +3,7 @@ use Rattle.std.proofs.lemmas.Result.{err_from_is_err_and}
 use Rattle.table.specs.Table.{table_of}
 use Rattle.range_laws.specs.Ranges.{ranges}
 use Rattle.join_laws.specs.Joined.{joined}
-use Rattle.exports.proofs.Cut.{cut_is, table_is}
+use Rattle.exports.proofs.Cut.{cut_is, table_is, all_fit}
 use Rattle.exports.proofs.joining.join_sound.Goals as goal
 
 pub returns-in_err-rules : goal.returns-in_err-rules
@@ -20,6 +20,17 @@ pub returns-in_err-pairs : goal.returns-in_err-pairs
 returns-in_err-pairs c =
     let p = err_from_is_err_and c.from_residual-in_err-pairs.result c.from_residual-in_err-pairs.ensures.1 in
     rw (p.1, p.2) tt
+
+pub returns-in_err-sizes : goal.returns-in_err-sizes
+returns-in_err-sizes c =
+    let p = err_from_is_err_and c.from_residual-in_err-sizes.result c.from_residual-in_err-sizes.ensures.1 in
+    let J = joined (ranges 256) (table_of c.args.first.now.draft) (table_of c.args.second.now.draft) in
+    let B = c.in_err-sizes.ensures.joins in
+    rw (p.1, p.2) (λ limited. B (all_fit J _ _ _ _ limited
+        (c.as_mut_slice-4.ensures.len ∙ c.in_ok-pairs.ensures.len)
+        (c.as_mut_slice.ensures.len ∙ c.in_ok-states.ensures.len)
+        (c.as_mut_slice-2.ensures.len ∙ c.in_ok-rules.ensures.len)
+        (c.as_mut_slice-3.ensures.len ∙ c.in_ok-outputs.ensures.len)))
 
 pub returns : goal.returns
 returns c =
