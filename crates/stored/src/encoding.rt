@@ -72,6 +72,7 @@ where
     }
     let holdings = shelf.head.holdings;
     let mut at = put_front(out, alphabet, &shelf.ledger[0..holdings]);
+    // A shelf hands out its holdings by number.
     for i in 0..holdings {
         at = put_body::<A>(out, at, shelf.view(i));
     }
