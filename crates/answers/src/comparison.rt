@@ -1,4 +1,4 @@
-// What comparing two filters answers.
+// What comparing two filters answers. An Option of a length would say the same, but its None not that they are equivalent.
 
 #[derive(Clone, Copy, Debug, PartialEq)]
 pub enum Comparison {

@@ -1,14 +1,16 @@
 // Putting the join of two holdings on a shelf, by way of lists of the caller.
 #![tactic(auto)]
 
-ghost use Rattle.std.specs.Prelude.{◌≡◌, ◌<◌, ◌≤◌, length};
+ghost use Rattle.std.specs.Prelude.{◌≡◌, ◌<◌, ◌≤◌, length, Ok};
 ghost use Rattle.table.specs.Table.{table_of};
+ghost use Rattle.table.specs.Check.{checked};
 ghost use Rattle.holdings.specs.Memory.{memory_of, holding};
+ghost use Rattle.holdings.specs.Check.{checked_shelf};
 ghost use Rattle.join_laws.specs.Joined.{joined};
 ghost use Rattle.join.specs.Filled.{Answers};
 ghost use Rattle.shelf_law.specs.Holdings.{Has};
 ghost use Rattle.shelf_law.specs.Scratch.{scratch_of, lists_of};
-ghost use Rattle.shelf_law.specs.Calls.{Joining, Readable, Does};
+ghost use Rattle.shelf_law.specs.Calls.{Joining, Does};
 ghost use Rattle.joining.specs.Fronts.{front_of_lem};
 
 use alphabet::Alphabet;
@@ -40,28 +42,30 @@ fn compose_views<A: Alphabet>(
     compose(&first, &second, states, rules, outputs, pairs)
 }
 
-// The fronts of three lists as a draft.
+// The fronts of three lists as a filter.
 fn front_of<'b, A: Alphabet>(
     states: &'b [State],
     rules: &'b [Rule<A::Guard>],
     outputs: &'b [A::Term],
     sizes: Sizes,
-) -> Draft<'b, A>
+) -> Filter<'b, A>
     requires states { sizes.states ≤ length states.now }
     requires rules { sizes.rules ≤ length rules.now }
     requires outputs { sizes.outputs ≤ length outputs.now }
-    ensures { table_of result ≡ front_of_lem states.now rules.now outputs.now sizes }
+    requires sound { checked A.model (front_of_lem states.now rules.now outputs.now sizes) ≡ Ok tt }
+    ensures { table_of result.draft ≡ front_of_lem states.now rules.now outputs.now sizes }
 {
     let Sizes {
         states: last_state,
         rules: last_rule,
         outputs: last_output,
     } = sizes;
-    Draft {
+    let draft = Draft {
         states: &states[0..last_state],
         rules: &rules[0..last_rule],
         outputs: &outputs[0..last_output],
-    }
+    };
+    Filter { draft }
 }
 
 // Puts the joined filter of the holdings of two numbers on the shelf, by way of the lists.
@@ -76,7 +80,7 @@ pub fn place_joined<A: Alphabet>(
     steps: &mut [Step],
     symbols: &mut [u32],
 ) -> Result<usize, Fault>
-    requires readable { Readable A.model (memory_of shelf.old) }
+    requires readable { checked_shelf A.model (memory_of shelf.old) ≡ Ok tt }
     requires first { Has (memory_of shelf.old) first }
     requires second { Has (memory_of shelf.old) second }
     ensures { Does A.model (scratch_of (length steps.old) (length symbols.old)) (memory_of shelf.old) (Joining first second (lists_of (length states.old) (length rules.old) (length outputs.old) (length pairs.old))) result (memory_of shelf.new) }
@@ -94,7 +98,6 @@ pub fn place_joined<A: Alphabet>(
     ) else {
         return Err(Fault::TooLarge);
     };
-    let draft = front_of(&*states, &*rules, &*outputs, sizes);
-    let filter = Filter { draft };
+    let filter = front_of(&*states, &*rules, &*outputs, sizes);
     place(shelf, &filter, steps, symbols)
 }

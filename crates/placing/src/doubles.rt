@@ -33,7 +33,8 @@ pub fn are_equivalent<A: Alphabet>(
     }
 }
 
-// The number of the lowest holding that is equivalent to a filter, or none.
+// The number of the lowest holding that is equivalent to a filter, or none. This and `first_short` are loops of their own:
+// the test here changes the scratch that it is lent, and a search over a closure would have to speak of each of its states.
 pub fn first_double<A: Alphabet>(
     shelf: &Readable<'_, '_, A>,
     filter: &Filter<'_, A>,

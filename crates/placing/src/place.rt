@@ -15,7 +15,8 @@ use steps::Step;
 use table::Filter;
 
 // Puts a filter behind the holdings, unless the scratch is too small against one of them, or one is equivalent to it, or
-// there is no room; answers its number.
+// there is no room; answers its number. The clause that the shelf can be read stands here, and no `Readable` is taken: that
+// only lends the shelf, which changes here.
 pub fn place<A: Alphabet>(
     shelf: &mut Shelf<'_, A>,
     filter: &Filter<'_, A>,

@@ -1,4 +1,5 @@
-// Memory that a caller lends a call to work in. What it holds afterwards is not said.
+// Memory that a caller lends a call to work in. What it holds afterwards is not said. The calls take it apart and hand on
+// its slices: the borrow checker does not cover a parameter that holds `&mut` slices and is passed on whole.
 use alphabet::Alphabet;
 use join_pairs::Pair;
 use steps::Step;

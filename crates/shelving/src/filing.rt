@@ -12,7 +12,8 @@ use shelf::file::file;
 use std::alloc::{AllocError, Global};
 use steps::Step;
 
-// Files each body on a shelf, in order, and answers the verdicts.
+// Files each body on a shelf, in order, and answers the verdicts. Steps and symbols are no `Scratch` here: a call uses that
+// up, and each filing is lent them anew.
 pub fn file_bodies<A: Alphabet>(
     heap: Global,
     bodies: &Shelf<'_, A>,

@@ -1,4 +1,5 @@
 use Rattle.std.proofs.Common.{length, ap, ◌∙◌, subst}
+use Rattle.table.specs.Table.{table_of}
 use Rattle.holdings.specs.Memory.{memory_of, holding}
 use Rattle.join_laws.specs.Joined.{joined}
 use Rattle.join.specs.Filled.{Answers}

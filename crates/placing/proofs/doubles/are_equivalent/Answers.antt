@@ -8,7 +8,7 @@ use Rattle.placing.proofs.doubles.are_equivalent.Goals as goal
 pub returns-in_default : goal.returns-in_default
 returns-in_default g c =
     let short = c.in_default.ensures.answer in
-    let enough = c.requires in
+    let enough = c.requires.enough in
     let room = c.new-queue.ensures.room in
     absurd (grind (arith, short, enough, room))
 

@@ -1,10 +1,8 @@
 use Rattle.std.proofs.Common.{length, sym, subst, arith}
 use Rattle.table.specs.Table.{table_of}
-use Rattle.table.specs.Sound.{Sound}
 use Rattle.filter.specs.Meaning.{Equivalent}
 use Rattle.holdings.specs.Memory.{memory_of}
 use Rattle.shelf_law.specs.Scratch.{scratch_of, Enough}
-use Rattle.holdings.proofs.ReadThrough.{readable_fits, readable_sound}
 use Rattle.placing.proofs.Turns.{lowest_here, none_more, none_all}
 use Rattle.placing.proofs.doubles.first_double.Goals as goal
 
@@ -12,8 +10,8 @@ pub are_equivalent-requires : goal.are_equivalent-requires
 are_equivalent-requires g c =
     let m = g.A.Alphabet.model in
     let F = table_of c.args.filter.now.draft in
-    let all = subst (Enough m (scratch_of (length c.args.steps.now) (length c.args.symbols.now)) F) (sym c.filter-holding.ensures) (c.requires c.loop-i.i c.loop-i-test.true) in
-    (omega (arith, all.0), omega (arith, all.1))
+    let all = subst (Enough m (scratch_of (length c.args.steps.now) (length c.args.symbols.now)) F) (sym c.filter-holding.ensures) (c.requires.enough c.loop-i.i c.loop-i-test.true) in
+    record { enough = (omega (arith, all.0), omega (arith, all.1)) }
 
 pub returns-then-are_equivalent : goal.returns-then-are_equivalent
 returns-then-are_equivalent g c =

@@ -15,7 +15,7 @@ returns-in-Some g c = short_scratch c.in-Some.number c.in-Some.ensures
 pub first_double-requires : goal.first_double-requires
 first_double-requires g c =
     let S = scratch_of (length c.args.steps.now) (length c.args.symbols.now) in
-    long_enough g.A.Alphabet.model S (memory_of c.args.shelf.now) (table_of c.args.filter.now.draft) c.in_default.ensures
+    record { enough = long_enough g.A.Alphabet.model S (memory_of c.args.shelf.now) (table_of c.args.filter.now.draft) c.in_default.ensures }
 
 pub returns-in-Some-first_double : goal.returns-in-Some-first_double
 returns-in-Some-first_double g c =
@@ -27,7 +27,7 @@ append-requires g c =
     let m = g.A.Alphabet.model in
     let sound = sound_from_checked m g.A.Alphabet.laws (table_of c.args.filter.now.draft) c.args.filter.now.sound in
     record {
-      fits = readable_fits m (memory_of c.args.shelf.now) c.requires;
+      fits = readable_fits m (memory_of c.args.shelf.now) c.requires.readable;
       short = (omega (arith, sound.few_states), omega (arith, sound.few_rules), omega (arith, sound.few_outputs));
     }
 

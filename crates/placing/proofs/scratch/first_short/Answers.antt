@@ -1,9 +1,6 @@
-use Rattle.std.proofs.Common.{sym, subst}
 use Rattle.table.specs.Table.{table_of}
-use Rattle.table.specs.Sound.{Sound}
 use Rattle.holdings.specs.Memory.{memory_of}
 use Rattle.shelf_law.specs.Scratch.{scratch_of, Short}
-use Rattle.holdings.proofs.ReadThrough.{readable_fits, readable_sound}
 use Rattle.placing.proofs.Turns.{lowest_here, none_more, none_all}
 use Rattle.placing.proofs.scratch.first_short.Goals as goal
 

@@ -17,7 +17,7 @@ returns-in_err-readable g c =
     let w = c.args.witness.now in
     let p = err_from_is_err_and c.from_residual.result c.from_residual.ensures.1 in
     record {
-      compares = subst (λ r. Compares m (lent c.args.scratch) M c.args.first c.args.second w r w) (sym (p.1 ∙ ap Err p.2)) (unreadable c.in_err-readable.field-0.0 (sym c.new-readable.ensures.answer ∙ ap dropped c.in_err-readable.was));
+      compares = subst (λ r. Compares m (lent c.args.scratch) M c.args.first c.args.second w r w) (sym (p.1 ∙ ap Err p.2)) (unreadable c.in_err-readable.field-0.0 (sym c.new.ensures.answer ∙ ap dropped c.in_err-readable.was));
       told = history_told m g.A.Alphabet.laws M;
     }
 
@@ -28,7 +28,7 @@ returns-in_err-one g c =
     let w = c.args.witness.now in
     let p = err_from_is_err_and c.from_residual-in_err-one.result c.from_residual-in_err-one.ensures.1 in
     let none = placeless_none M c.args.first c.in_err-one.field-0.0 (sym c.place.ensures ∙ c.in_err-one.was) in
-    let ok = sym c.new-readable.ensures.answer ∙ ap dropped c.in_ok-readable.was in
+    let ok = sym c.new.ensures.answer ∙ ap dropped c.in_ok-readable.was in
     record {
       compares = subst (λ r. Compares m (lent c.args.scratch) M c.args.first c.args.second w r w) (sym (p.1 ∙ ap Err (p.2 ∙ none.1))) (no_first ok none.0);
       told = history_told m g.A.Alphabet.laws M;
@@ -42,7 +42,7 @@ returns-in_err-other g c =
     let p = err_from_is_err_and c.from_residual-in_err-other.result c.from_residual-in_err-other.ensures.1 in
     let has = placed_has M c.args.first c.in_ok-one.one (sym c.place.ensures ∙ c.in_ok-one.was) in
     let none = placeless_none M c.args.second c.in_err-other.field-0.0 (sym c.place-2.ensures ∙ c.in_err-other.was) in
-    let ok = sym c.new-readable.ensures.answer ∙ ap dropped c.in_ok-readable.was in
+    let ok = sym c.new.ensures.answer ∙ ap dropped c.in_ok-readable.was in
     record {
       compares = subst (λ r. Compares m (lent c.args.scratch) M c.args.first c.args.second w r w) (sym (p.1 ∙ ap Err (p.2 ∙ none.1))) (no_second ok has.0 none.0);
       told = history_told m g.A.Alphabet.laws M;
@@ -64,7 +64,7 @@ pub returns : goal.returns
 returns g c =
     let m = g.A.Alphabet.model in
     let M = memory_of c.args.shelf.now in
-    let ok = sym c.new-readable.ensures.answer ∙ ap dropped c.in_ok-readable.was in
+    let ok = sym c.new.ensures.answer ∙ ap dropped c.in_ok-readable.was in
     let one = placed_has M c.args.first c.in_ok-one.one (sym c.place.ensures ∙ c.in_ok-one.was) in
     let other = placed_has M c.args.second c.in_ok-other.other (sym c.place-2.ensures ∙ c.in_ok-other.was) in
     let same = c.in_ok-readable.ensures.shelf in

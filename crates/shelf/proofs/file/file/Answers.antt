@@ -25,18 +25,18 @@ returns-in_err-filter g c =
     let F = table_of c.args.draft.now in
     let p = err_from_is_err_and c.from_residual-in_err-filter.result c.from_residual-in_err-filter.ensures.1 in
     let ok = sym c.check.ensures ∙ c.in_ok-check.was in
-    let D = subst (λ r. Does m (lent c.args.scratch) M (Filing F) r M) (sym (p.1 ∙ ap Err p.2)) (unsound F c.in_err-filter.field-0.0 ok (sym c.new-filter.ensures.answer ∙ ap dropped c.in_err-filter.was)) in
+    let D = subst (λ r. Does m (lent c.args.scratch) M (Filing F) r M) (sym (p.1 ∙ ap Err p.2)) (unsound F c.in_err-filter.field-0.0 ok (sym c.new.ensures.answer ∙ ap dropped c.in_err-filter.was)) in
     record { does = D; law = law_of m g.A.Alphabet.laws D }
 
 pub place-requires : goal.place-requires
-place-requires g c = sym c.check.ensures ∙ c.in_ok-check.was
+place-requires g c = record { readable = sym c.check.ensures ∙ c.in_ok-check.was }
 
 pub returns : goal.returns
 returns g c =
     let m = g.A.Alphabet.model in
     let F = table_of c.args.draft.now in
     let ok = sym c.check.ensures ∙ c.in_ok-check.was in
-    let fine = sym c.new-filter.ensures.answer ∙ ap dropped c.in_ok-filter.was in
+    let fine = sym c.new.ensures.answer ∙ ap dropped c.in_ok-filter.was in
     let A = memory_of c.place.new.shelf in
     let placed = subst (λ X. Placing m (lent c.args.scratch) (memory_of c.args.shelf.now) X c.place.result A) (ap table_of c.in_ok-filter.ensures.draft) c.place.ensures in
     let D = files F c.place.result A ok fine placed in
