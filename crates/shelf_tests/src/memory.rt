@@ -1,7 +1,7 @@
 // A shelf in memory of its own, which can be copied and compared whole.
 use alphabet::Alphabet;
-use shelf::open::open;
 use holdings::{Entry, Head, Shelf};
+use shelf::open::open;
 use std::alloc::{AllocError, Global};
 use table::{Rule, State};
 

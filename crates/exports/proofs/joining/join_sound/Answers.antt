@@ -27,10 +27,10 @@ returns-in_err-sizes c =
     let J = joined (ranges 256) (table_of c.args.first.now.draft) (table_of c.args.second.now.draft) in
     let B = c.in_err-sizes.ensures.joins in
     rw (p.1, p.2) (λ limited. B (all_fit J _ _ _ _ limited
-        (c.as_mut_slice-4.ensures.len ∙ c.in_ok-pairs.ensures.len)
-        (c.as_mut_slice.ensures.len ∙ c.in_ok-states.ensures.len)
-        (c.as_mut_slice-2.ensures.len ∙ c.in_ok-rules.ensures.len)
-        (c.as_mut_slice-3.ensures.len ∙ c.in_ok-outputs.ensures.len)))
+    (c.as_mut_slice-4.ensures.len ∙ c.in_ok-pairs.ensures.len)
+    (c.as_mut_slice.ensures.len ∙ c.in_ok-states.ensures.len)
+    (c.as_mut_slice-2.ensures.len ∙ c.in_ok-rules.ensures.len)
+    (c.as_mut_slice-3.ensures.len ∙ c.in_ok-outputs.ensures.len)))
 
 pub returns : goal.returns
 returns c =
