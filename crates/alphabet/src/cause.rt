@@ -16,7 +16,7 @@ pub enum Cause {
 }
 
 impl Cause {
-    // The number by which the cause is reported.
+    // The number by which the cause is reported. A method, since `u8::from` would not say which number it is.
     pub fn number(self) -> u8
         ensures { result ≡ cause_number self }
     {

@@ -88,6 +88,7 @@ pub fn least_shared<A: Alphabet>(left: A::Guard, right: A::Guard) -> Option<u32>
     requires right { SoundGuard A.model right }
     ensures { LeastFrom (both A.model left right) 0 result }
 {
+    // each turn jumps to the next symbol that the second guard holds, so there is no range to go over
     let mut from = 0;
     loop {
         let low = A::first_inside(left, from)?;

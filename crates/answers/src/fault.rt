@@ -54,6 +54,7 @@ fn plain(number: u8, place: usize) -> Report
 }
 
 impl Fault {
+    // The fault as it is reported. A method, since a `From` would not say at a call what it gives.
     pub fn report(self) -> Report
         ensures { result ≡ report_of self }
     {

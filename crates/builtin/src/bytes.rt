@@ -96,7 +96,8 @@ static ASCII_RULES: [Rule<Range>; 1] = [Rule {
 
 static ASCII_OUTPUTS: [RangeTerm; 1] = [RangeTerm::Shift(0)];
 
-// Writes `&amp;` for an ampersand and copies every other byte.
+// Writes `&amp;` for an ampersand and copies every other byte. It and the next two differ in their tables alone, but each
+// has a contract of its own on what its table does.
 pub fn escape() -> Draft<'static, Bytes>
     ensures table { table_of result ≡ escape_table }
     ensures means { Maps (table_of result) is_byte escaped }

@@ -15,7 +15,7 @@ ghost use Rattle.classes.specs.Guided.{Guided, Below};
 use alphabet::Alphabet;
 pub use sides::Standing;
 
-// The lower of two numbers, where there are any.
+// The lower of two numbers, where there are any; the library's `min` takes none for the lowest.
 pub(crate) fn lower(one: Option<u32>, other: Option<u32>) -> Option<u32>
     ensures { result ≡ lower_of one other }
 {
@@ -36,7 +36,8 @@ fn first_of_either<A: Alphabet>(
     lower(left.first_held(from), right.first_held(from))
 }
 
-// The end of a symbol's run: the least number behind it at which a side has another rule, or none.
+// The end of a symbol's run: the least number behind it at which a side has another rule, or none. It and
+// `first_of_either` are one line each, which a closure would make no shorter.
 fn run_end<A: Alphabet>(
     left: &Standing<'_, '_, A>,
     right: &Standing<'_, '_, A>,

@@ -74,7 +74,7 @@ impl Record for MarkTerm {
         out.copy_from_slice(&[tag, a, b, c, d]);
     }
 
-    // A tag above 1, or a byte of a turn that should be 0.
+    // A tag above 1, or a byte of a turn that should be 0: `if`s, since each names its own place.
     fn wrong(bytes: &[u8]) -> Option<usize> {
         match bytes[0] {
             0 => None,

@@ -71,7 +71,7 @@ impl Record for RangeTerm {
     }
 
     fn wrong(bytes: &[u8]) -> Option<usize> {
-        if bytes[0] > 1 { Some(0) } else { None }
+        (bytes[0] > 1).then_some(0)
     }
 }
 

@@ -51,6 +51,7 @@ pub fn search<A: Alphabet>(
     ensures told { Told (machine_of A.model (table_of pair.now.left.now.draft)) (machine_of A.model (table_of pair.now.right.now.draft)) (text_in (entries_of queue.new) result) }
     ensures early { Early (steps_needed_lem pair.now.frame.left pair.now.frame.right) (entries_of queue.new) result }
 {
+    // a `while`, since the queue gets new steps in each turn
     while let Some((number, step)) = queue.next() {
         if !step_agrees(pair, queue.entries(), step, outputs) {
             return Some(number);

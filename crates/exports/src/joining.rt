@@ -16,7 +16,7 @@ use ranges::{Bytes, Range, RangeTerm};
 use std::alloc::{AllocError, Global};
 use table::{Draft, Filter, Rule, State, TableFault};
 
-// Why two filters are not joined.
+// Why two filters are not joined. Comparing has a type of its own, since it has no limit to be over.
 #[derive(Drop)]
 pub enum JoinFault {
     // The first filter's table is unsound.

@@ -5,6 +5,7 @@ ghost use Rattle.filter.specs.Outcomes.{transduce_code};
 
 use table::{FaultCode, TableFault};
 
+// A rejection is an answer and no error, so this is no `Result`.
 #[derive(Clone, Copy, Debug, PartialEq)]
 pub enum Outcome {
     // The text was accepted in this state, and so many symbols were written.
@@ -25,6 +26,7 @@ pub enum TransduceFault {
 }
 
 impl TransduceFault {
+    // The fault as it is reported. A method, since a `From` would not say at a call what it gives.
     pub fn code(self) -> FaultCode
         ensures { result ≡ transduce_code self }
     {

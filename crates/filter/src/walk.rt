@@ -56,7 +56,7 @@ fn write_at(out: &mut [u32], place: usize, symbol: u32)
 }
 
 // Writes the values of terms at a symbol into the output from a place on, as far as it reaches, and answers the place
-// behind them.
+// behind them. The place counts on where the output ends, so it is no length of what the output holds.
 pub fn emit<A: Alphabet>(terms: &[A::Term], symbol: u32, out: &mut [u32], at: usize) -> usize
     requires sound { AllByRecursion (SoundTerm A.model) terms.now }
     requires fits { at + length terms.now < 2 ^ 64 }

@@ -11,7 +11,7 @@ use alphabet::Alphabet;
 use answers::Fault;
 use table::Draft;
 
-// Writes a list over another from a place on.
+// Writes a list over another from a place on. The lists are the caller's, who has no heap.
 fn copy_into<T: Copy>(list: &mut [T], at: usize, more: &[T])
     requires { at + length more.now ≤ length list.old }
     ensures { list.new ≡ over list.old at more.now }

@@ -110,6 +110,8 @@ impl<'a, A: Alphabet> Shelf<'a, A> {
             return Err(Fault::Misfit);
         }
         let holdings = self.head.holdings;
+        // by number, since it is the number that a fault names; and an `if let`, since a closure that captures the counter is
+        // not followed by the proof of the loop
         for i in 0..holdings {
             let view = self.view(i);
             if let Err(fault) = view.check() {

@@ -38,6 +38,8 @@ fn number_since<G: Copy>(
     Ok(())
 }
 
+// The queue, the path and the two lists are parameters of their own here, since each is a stretch of the caller's memory; that
+// a queue holds at most 64 pairs is asked beside it, since queues of other sizes are made elsewhere.
 // Writes the ways that follow a rule of the first filter, and meets the pairs that they lead to where the first goes on
 // to a state.
 fn add_line<A: Alphabet>(
@@ -123,6 +125,7 @@ pub fn explore<'x, A: Alphabet>(
     ensures same_rules { Same rules.old rules.new }
     ensures same_outputs { Same outputs.old outputs.new }
 {
+    // a `while`, since the queue gets new pairs in each turn
     while let Some((number, pair)) = queue.next() {
         add_pair(
             first,

@@ -87,6 +87,7 @@ pub fn place_joined<A: Alphabet>(
 {
     let (i, j) = (first - 1, second - 1);
     let readable = Readable { shelf: &*shelf };
+    // no `From` turns the one error into the other: this crate has neither of the two types
     let Ok(sizes) = compose_views(
         &readable,
         i,

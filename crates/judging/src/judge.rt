@@ -35,7 +35,7 @@ fn lags_alike<A: Alphabet>(
     same_lags(left, right, steps, first, second, x, y, z, w)
 }
 
-// Whether both sides have a state.
+// Whether both sides have a state. It and `both_dead` of the crate above name what their contracts ask.
 fn both_live(left: Option<u16>, right: Option<u16>) -> bool
     ensures { result ≡ both_live_lem left right }
 {

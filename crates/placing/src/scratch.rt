@@ -7,8 +7,7 @@ ghost use Rattle.shelf_law.specs.Scratch.{scratch_of, Short};
 
 use alphabet::Alphabet;
 use holdings::Readable;
-use judging::frame_of;
-use steps::steps_needed;
+use judging::FilterPair;
 use table::Filter;
 
 // Whether so many slots for steps and so many symbols are too few to compare two filters.
@@ -20,8 +19,8 @@ pub fn is_short<A: Alphabet>(
 ) -> bool
     ensures { Decides result (Short A.model (scratch_of steps symbols) (table_of left.now.draft) (table_of right.now.draft)) }
 {
-    let frame = frame_of(left, right);
-    steps < steps_needed(frame.left, frame.right) || symbols < 6 * frame.room
+    let pair = FilterPair::new(left, right);
+    steps < pair.steps() || symbols < pair.symbols()
 }
 
 // The number of the lowest holding against which they are too few, or none.

@@ -10,7 +10,8 @@ use steps::{Hand, Step, side_of};
 use table::{Draft, Filter};
 
 // Writes what a filter writes on the way over the text of a step, and answers how much that is. Each step says where the
-// outputs of its rule stand and where they end in the whole, so it goes from the last symbol to the first.
+// outputs of its rule stand and where they end in the whole, so it goes from the last symbol to the first: a `while`, since
+// only the way up the parents tells which steps are on it.
 pub fn output<A: Alphabet>(
     draft: &Draft<'_, A>,
     hand: Hand,

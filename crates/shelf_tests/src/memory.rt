@@ -44,11 +44,7 @@ const SPARE_STATE: State = State { mark: 9, finals: 9 };
 
 // One item some times.
 pub fn filled<T: Copy>(heap: Global, item: T, count: usize) -> Result<Vec<T>, AllocError> {
-    let mut list = Vec::new(heap);
-    for _ in 0..count {
-        list.push(item)?;
-    }
-    Ok(list)
+    Ok(vec![in heap; item; count]?)
 }
 
 // A shelf that was opened over lists of these lengths.

@@ -17,11 +17,7 @@ use table::{Rule, State};
 
 // One item some times.
 pub fn filled<T: Copy>(heap: Global, item: T, count: usize) -> Result<Vec<T>, AllocError> {
-    let mut list = Vec::new(heap);
-    for _ in 0..count {
-        list.push(item)?;
-    }
-    Ok(list)
+    Ok(vec![in heap; item; count]?)
 }
 
 // Scratch, and the lists for a joined filter, in memory of their own.

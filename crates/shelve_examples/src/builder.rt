@@ -59,13 +59,11 @@ where
     A::Term: Record,
 {
     let mut bytes = vec![in heap; 0u8; MOST_BYTES]?;
-    match encode(shelf, bytes.as_mut_slice()) {
-        Ok(size) => {
-            bytes.truncate(size);
-            Ok(bytes)
-        }
-        Err(_) => Err(anyhow!("an example is no sound shelf")),
-    }
+    let size = encode(shelf, bytes.as_mut_slice()).map_err(|_| anyhow!(
+        "an example is no sound shelf"
+    ))?;
+    bytes.truncate(size);
+    Ok(bytes)
 }
 
 // The bytes of the shelf put together, which are read back and written again to see that they stay.
@@ -91,9 +89,7 @@ where
         outputs: bodies.outputs.as_mut_slice(),
     };
     let bytes = written(heap, &shelf)?;
-    if let Err(_) = decode(bytes.as_slice(), &mut shelf) {
-        return Err(anyhow!("an example cannot be read"));
-    }
+    decode(bytes.as_slice(), &mut shelf).map_err(|_| anyhow!("an example cannot be read"))?;
     let again = written(heap, &shelf)?;
     if again.as_slice() != bytes.as_slice() {
         return Err(anyhow!("an example does not stay what it was"));

@@ -51,6 +51,7 @@ pub struct InputCode {
 }
 
 impl InputFault {
+    // The fault as it is reported. A method, since a `From` would not say at a call what it gives.
     pub fn code(self) -> InputCode
         ensures { result ≡ code_of self }
     {

@@ -26,6 +26,7 @@ pub fn file_bodies<A: Alphabet>(
 {
     let mut verdicts = Vec::new(heap);
     let count = bodies.head.holdings;
+    // by number, as a shelf gives its holdings
     for i in 0..count {
         let body = bodies.view(i);
         let scratch = Scratch {

@@ -16,7 +16,8 @@ use shelf::compare::compare;
 use std::alloc::{AllocError, Global};
 use steps::Step;
 
-// The earliest text that distinguishes two holdings, by way of the witness.
+// The earliest text that distinguishes two holdings, by way of the witness. Scratch and witness are three slices here, and what
+// is asked of them stands beside them: a struct that holds them could not be lent again in the next turn.
 fn text_between<A: Alphabet>(
     heap: Global,
     shelf: &Shelf<'_, A>,

@@ -23,7 +23,7 @@ pub struct Pair {
     pub text: Vec<u32>,
 }
 
-// The verdict that an answer of filing is.
+// The verdict that an answer of filing is. A function, since a `From` of a whole `Result` would read no plainer.
 pub fn verdict_of(answer: Result<usize, Fault>) -> Verdict
     ensures { result ≡ verdict_of_lem answer }
 {

@@ -4,6 +4,7 @@ ghost use Rattle.steps.specs.Steps.{above_of, text as text_of, length_in, writte
 
 use crate::step::Step;
 
+// That a step is one of the steps is asked in three private functions here: a type for that would be longer than they are.
 // The step whose text a step's text goes on from: its parent, or the first step where the parent is not an earlier one.
 fn step_above(steps: &[Step], step: usize) -> usize
     requires within { step < length steps.now }
@@ -29,7 +30,8 @@ fn text_length(steps: &[Step], step: usize) -> usize
     count
 }
 
-// Writes the text of a step to the front of a list that has room for it, the last symbol first.
+// Writes the text of a step to the front of a list that has room for it, the last symbol first. The count is the text's
+// length, which the caller has found already.
 fn fill_text(steps: &[Step], step: usize, count: usize, witness: &mut [u32])
     requires within { step < length steps.now }
     requires count { count ≡ length (text_of steps.now step) }

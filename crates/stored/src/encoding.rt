@@ -39,7 +39,8 @@ fn put_front(out: &mut [u8], alphabet: u8, ledger: &[Entry]) -> usize
     put(out, 2, ledger)
 }
 
-// Writes the body of a table from a place on, and answers the place behind it.
+// Writes the body of a table from a place on, and answers the place behind it. The output is the caller's, and its length is
+// that of the whole shelf.
 fn put_body<A: Stored>(out: &mut [u8], at: usize, view: Draft<'_, A>) -> usize
 where
     A::Guard: GuardRecord,

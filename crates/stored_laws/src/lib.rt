@@ -36,7 +36,8 @@ pub struct StoredCode {
 }
 
 impl StoredFault {
-    // The fault as it is reported; the shelf's own is kept whole beside its number and place.
+    // The fault as it is reported; the shelf's own is kept whole beside its number and place. A method, since a `From` would not
+    // say at a call what it gives.
     pub fn code(self) -> StoredCode
         ensures { result ≡ code_of self }
     {
@@ -68,7 +69,7 @@ impl From<Fault> for StoredFault {
     }
 }
 
-// The number and the place.
+// The number and the place. Codes of tables and of input have a `Display` of their own, as they are other types.
 impl fmt::Display for StoredCode {
     ghost output = { λ c. Some (code_text c) };
 

@@ -4,7 +4,7 @@ ghost use Rattle.std.specs.Prelude.{◌≡◌, ℕ};
 use alphabet::Alphabet;
 
 // A state: the mark says whether it rejects (0) or accepts (1) at the end of a text; the count is that of its final
-// outputs.
+// outputs. The mark is a number, since a caller's list may hold any, and the check has to name it.
 #[derive(Clone, Copy, Debug, PartialEq)]
 pub struct State {
     pub mark: u8,

@@ -37,6 +37,7 @@ pub struct FaultCode {
 }
 
 impl TableFault {
+    // The fault as it is reported. A method, since a `From` would not say at a call what it gives.
     pub fn code(self) -> FaultCode
         ensures { result ≡ code_of self }
     {

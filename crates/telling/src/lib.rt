@@ -9,10 +9,10 @@ ghost use Rattle.shelf_law.specs.Comparing.{Compared};
 use alphabet::Alphabet;
 use answers::{Comparison, Fault};
 use equivalence::compare::compare;
-use judging::frame_of;
+use judging::FilterPair;
 use placing::scratch::is_short;
 use queue::Queue;
-use steps::{Step, steps_needed, write_text};
+use steps::{Step, write_text};
 use table::Filter;
 
 // Compares two sound filters, the second of which is the holding of this number.
@@ -29,12 +29,13 @@ pub fn distinguish<A: Alphabet>(
     if is_short(left, right, steps.len(), symbols.len()) {
         return Err(Fault::ShortScratch(number));
     }
-    let frame = frame_of(left, right);
-    let needed = steps_needed(frame.left, frame.right);
+    let pair = FilterPair::new(left, right);
+    let needed = pair.steps();
     if witness.len() < needed {
         return Err(Fault::TooShort(needed));
     }
     let mut queue = Queue::new(steps);
+    // this and the last refusal cannot come behind the two tests; a `map_err` would only hide that from the proof
     let Ok(answer) = compare(left, right, &mut queue, symbols) else {
         return Err(Fault::ShortScratch(number));
     };

@@ -1,7 +1,6 @@
-use Rattle.std.proofs.Common.{◌≡◌, ◌≤◌, length, Err, sym, ap, ◌∙◌, subst, arith}
+use Rattle.std.proofs.Common.{◌≡◌, ◌≤◌, length, Err, sym, ap, subst, arith}
 use Rattle.queue.specs.Held.{entries}
 use Rattle.table.specs.Table.{table_of}
-use Rattle.steps.specs.Places.{steps_needed_lem}
 use Rattle.steps.specs.Steps.{text}
 use Rattle.answers.specs.declared.fault.Fault.TheVariants.{TooShort}
 use Rattle.equivalence.specs.Answers.{steps_for, text_in, Early}
@@ -21,8 +20,7 @@ returns-then-witness-needed g c =
     let H = table_of c.args.right.now.draft in
     let S = scratch_of (length c.args.steps.now) (length c.args.symbols.now) in
     let w = c.args.witness.now in
-    let f = c.frame_of-frame.ensures.framed in
-    let needed : c.steps_needed-needed.result ≡ steps_for m F H = c.steps_needed-needed.ensures ∙ ap (λ p. steps_needed_lem p c.frame_of-frame.result.right) f.left ∙ ap (steps_needed_lem (length F.states)) f.right in
+    let needed : c.steps-needed.result ≡ steps_for m F H = rw (← c.new-pair.ensures.left, ← c.new-pair.ensures.right) c.steps-needed.ensures in
     subst (λ n. Compared m S F H c.args.number w (Err (TooShort n)) w) (sym needed)
     (short_witness (long_enough m S F H c.is_short.result c.is_short.ensures c.if-is_short.false) (omega (arith, needed, c.if-witness-needed.true)))
 
@@ -44,8 +42,7 @@ returns-in_default-answer g c =
     let H = table_of c.args.right.now.draft in
     let S = scratch_of (length c.args.steps.now) (length c.args.symbols.now) in
     let L = entries c.compare.new.queue in
-    let f = c.frame_of-frame.ensures.framed in
-    let needed : c.steps_needed-needed.result ≡ steps_for m F H = c.steps_needed-needed.ensures ∙ ap (λ p. steps_needed_lem p c.frame_of-frame.result.right) f.left ∙ ap (steps_needed_lem (length F.states)) f.right in
+    let needed : c.steps-needed.result ≡ steps_for m F H = rw (← c.new-pair.ensures.left, ← c.new-pair.ensures.right) c.steps-needed.ensures in
     let room : steps_for m F H ≤ length c.args.witness.now = omega (arith, needed, c.if-witness-needed.false) in
     equivalent (long_enough m S F H c.is_short.result c.is_short.ensures c.if-is_short.false) room (subst (λ o. Decided m F H (text_in L o)) c.in_default-answer.is c.in-Ok.ensures.decides)
 
@@ -57,8 +54,7 @@ returns g c =
     let S = scratch_of (length c.args.steps.now) (length c.args.symbols.now) in
     let L = entries c.compare.new.queue in
     let k = c.in-Some.step in
-    let f = c.frame_of-frame.ensures.framed in
-    let needed : c.steps_needed-needed.result ≡ steps_for m F H = c.steps_needed-needed.ensures ∙ ap (λ p. steps_needed_lem p c.frame_of-frame.result.right) f.left ∙ ap (steps_needed_lem (length F.states)) f.right in
+    let needed : c.steps-needed.result ≡ steps_for m F H = rw (← c.new-pair.ensures.left, ← c.new-pair.ensures.right) c.steps-needed.ensures in
     let room : steps_for m F H ≤ length c.args.witness.now = omega (arith, needed, c.if-witness-needed.false) in
     let early = subst (λ o. Early (steps_for m F H) L o) c.in-Some.is c.in-Ok.ensures.answer.3 in
     told_text m S F H c.args.number c.args.witness.now (long_enough m S F H c.is_short.result c.is_short.ensures c.if-is_short.false) room L c.entries.result.now k c.entries.ensures
@@ -70,8 +66,7 @@ returns-in_default-write_text g c =
     let F = table_of c.args.left.now.draft in
     let H = table_of c.args.right.now.draft in
     let L = entries c.compare.new.queue in
-    let f = c.frame_of-frame.ensures.framed in
-    let needed : c.steps_needed-needed.result ≡ steps_for m F H = c.steps_needed-needed.ensures ∙ ap (λ p. steps_needed_lem p c.frame_of-frame.result.right) f.left ∙ ap (steps_needed_lem (length F.states)) f.right in
+    let needed : c.steps-needed.result ≡ steps_for m F H = rw (← c.new-pair.ensures.left, ← c.new-pair.ensures.right) c.steps-needed.ensures in
     let room : steps_for m F H ≤ length c.args.witness.now = omega (arith, needed, c.if-witness-needed.false) in
     let early = subst (λ o. Early (steps_for m F H) L o) c.in-Some.is c.in-Ok.ensures.answer.3 in
     absurd (never_short (text c.entries.result.now c.in-Some.step) (text L c.in-Some.step) c.args.witness.now (ap (λ X. text X c.in-Some.step) c.entries.ensures) (omega (arith, early.1, room)) c.in_default-write_text.ensures.answer)

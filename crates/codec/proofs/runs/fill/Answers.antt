@@ -1,10 +1,10 @@
-use Rattle.std.proofs.Common.{◌≡◌, ℕ, ◌+◌, ◌-◌, ◌*◌, ◌≤◌, List, length, drop, take, sym, ap, ◌∙◌, refl, arith}
+use Rattle.std.proofs.Common.{◌≡◌, ℕ, ◌+◌, ◌-◌, ◌*◌, ◌≤◌, List, length, drop, take, ap, ◌∙◌, arith}
 use borrow.Rule.Slice.PartMut.{put_mid}
 use Rattle.std.proofs.lemmas.List.{drop-drop, length-drop, length-take-le}
 use Rattle.codec_laws.specs.Lists.{records}
 use Rattle.codec_laws.proofs.Lists.{records_length}
 use Rattle.codec_laws.proofs.Overs.{over_all, part_over}
-use Rattle.codec.proofs.Turns.{ends, next_at, fill_more}
+use Rattle.codec.proofs.Turns.{next_at, fill_more}
 use Rattle.codec.proofs.runs.fill.Goals as goal
 
 -- how many places there are

@@ -1,6 +1,6 @@
-use Rattle.std.proofs.Common.{◌≡◌, ℕ, ◌+◌, ◌-◌, ◌<◌, ◌≤◌, length, drop, Option, sym, ap, ◌∙◌, arith, rules}
+use Rattle.std.proofs.Common.{◌≡◌, ℕ, ◌+◌, ◌-◌, drop, Option, sym, ap, ◌∙◌, arith}
 use Rattle.codec_laws.specs.Lists.{wrong_from}
-use Rattle.codec.proofs.Turns.{ends, next_at, wrong_found, wrong_none}
+use Rattle.codec.proofs.Turns.{next_at, wrong_found, wrong_none}
 use Rattle.codec.proofs.runs.first_wrong.Goals as goal
 
 pub returns-in-Some : goal.returns-in-Some

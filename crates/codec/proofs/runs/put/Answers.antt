@@ -1,9 +1,5 @@
-use Rattle.std.proofs.Common.{◌≡◌, ◌+◌, ◌-◌, ◌*◌, ◌≤◌, length, sym, ap, ◌∙◌, arith, rules}
-use Rattle.holdings.specs.Append.{over}
-use Rattle.std.proofs.lemmas.List.{take_all}
-use Rattle.codec_laws.specs.Lists.{image_all}
-use Rattle.codec_laws.proofs.Overs.{over_none}
-use Rattle.codec.proofs.Turns.{ends, next_at, put_more}
+use Rattle.std.proofs.Common.{◌≡◌, ◌+◌, ◌-◌, arith}
+use Rattle.codec.proofs.Turns.{next_at, put_more}
 use Rattle.codec.proofs.runs.put.Goals as goal
 
 pub loop-record-preserved : goal.loop-record-preserved

@@ -3,7 +3,7 @@ use Rattle.table.specs.Check.{checked}
 use Rattle.table.specs.Results.{map_err}
 use Rattle.answers.specs.declared.fault.Fault.TheVariants.{Unsound}
 use Rattle.holdings.specs.Memory.{memory_of, fits}
-use Rattle.holdings.proofs.Checks.{shelf_is, all_checked, holding_unsound, holding_sound}
+use Rattle.holdings.proofs.Checks.{shelf_is, holding_unsound, holding_sound}
 use Rattle.holdings.proofs.memory.Shelf.check.Goals as goal
 
 pub returns-in-Err : goal.returns-in-Err
