@@ -14,17 +14,6 @@ use Rattle.steps.specs.Steps.{written_to}
 use Rattle.comparing.specs.declared.CompareFault.{CompareFault}
 use Rattle.comparing.specs.declared.CompareFault.TheVariants.{First, Second, NoMemory}
 use Rattle.exports.specs.declared.answer.Answer.{Answer}
-use Rattle.exports.specs.declared.answer.Kind.{Kind}
-use Rattle.exports.specs.declared.answer.Kind.TheVariants.{Done, Otherwise, Refused, NoMemory as NoMemoryKind, SecondRefused, TooShort}
-
--- the number of a kind
-abbrev pub kind_number : Kind → ℕ
-kind_number Done = 0
-kind_number Otherwise = 1
-kind_number Refused = 2
-kind_number NoMemoryKind = 3
-kind_number SecondRefused = 4
-kind_number TooShort = 5
 
 abbrev pub answer : ℕ → ℕ → ℕ → ℕ → Answer
 answer k a b c = record { kind = k; first = a; second = b; third = c }

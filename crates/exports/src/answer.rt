@@ -1,7 +1,7 @@
 // What an exported call answers.
 ghost use Rattle.std.specs.Prelude.{◌≡◌, length};
 ghost use Rattle.steps.specs.Steps.{written_to};
-ghost use Rattle.exports.specs.Answers.{answer, kind_number, cause_of_lem, refusal, check_answer_lem, transduce_answer_lem, tell_answer, compare_answer_lem, witness_after};
+ghost use Rattle.exports.specs.Answers.{answer, cause_of_lem, refusal, check_answer_lem, transduce_answer_lem, tell_answer, compare_answer_lem, witness_after};
 
 use alphabet::Cause;
 use comparing::CompareFault;
@@ -43,11 +43,11 @@ pub const NO_MEMORY: Answer = Answer {
     third: 0,
 };
 
-pub fn answer_of(kind: Kind, first: usize, second: usize, third: usize) -> Answer
-    ensures { result ≡ answer (kind_number kind) first second third }
+pub fn answer_of(kind: u32, first: usize, second: usize, third: usize) -> Answer
+    ensures { result ≡ answer kind first second third }
 {
     Answer {
-        kind: kind as u32,
+        kind,
         first,
         second,
         third,
@@ -61,8 +61,8 @@ fn cause_of(cause: Option<Cause>) -> usize
 }
 
 // A refusal of this kind.
-pub fn refused(kind: Kind, code: FaultCode) -> Answer
-    ensures { result ≡ refusal (kind_number kind) code }
+pub fn refused(kind: u32, code: FaultCode) -> Answer
+    ensures { result ≡ refusal kind code }
 {
     answer_of(kind, code.number as usize, code.place, cause_of(code.cause))
 }
@@ -71,8 +71,8 @@ pub fn check_answer(outcome: Result<(), TableFault>) -> Answer
     ensures { result ≡ check_answer_lem outcome }
 {
     match outcome {
-        Ok(()) => answer_of(Kind::Done, 0, 0, 0),
-        Err(fault) => refused(Kind::Refused, fault.code()),
+        Ok(()) => answer_of(Kind::Done as u32, 0, 0, 0),
+        Err(fault) => refused(Kind::Refused as u32, fault.code()),
     }
 }
 
@@ -80,9 +80,14 @@ pub fn transduce_answer(outcome: Result<Outcome, TransduceFault>) -> Answer
     ensures { result ≡ transduce_answer_lem outcome }
 {
     match outcome {
-        Ok(Outcome::Written { state, count }) => answer_of(Kind::Done, state as usize, count, 0),
-        Ok(Outcome::Rejected { position }) => answer_of(Kind::Otherwise, position, 0, 0),
-        Err(fault) => refused(Kind::Refused, fault.code()),
+        Ok(Outcome::Written { state, count }) => answer_of(
+            Kind::Done as u32,
+            state as usize,
+            count,
+            0,
+        ),
+        Ok(Outcome::Rejected { position }) => answer_of(Kind::Otherwise as u32, position, 0, 0),
+        Err(fault) => refused(Kind::Refused as u32, fault.code()),
     }
 }
 
@@ -93,10 +98,10 @@ pub fn tell(text: &[u32], witness: &mut [u32]) -> Answer
 {
     let count = text.len();
     if count > witness.len() {
-        return answer_of(Kind::TooShort, count, 0, 0);
+        return answer_of(Kind::TooShort as u32, count, 0, 0);
     }
     witness[0..count].copy_from_slice(text);
-    answer_of(Kind::Otherwise, count, 0, 0)
+    answer_of(Kind::Otherwise as u32, count, 0, 0)
 }
 
 // The answer to a comparison, with a distinguishing text written to the witness.
@@ -108,10 +113,10 @@ pub fn compare_answer(
     ensures witness { witness.new ≡ witness_after outcome witness.old }
 {
     match outcome {
-        Ok(None) => answer_of(Kind::Done, 0, 0, 0),
+        Ok(None) => answer_of(Kind::Done as u32, 0, 0, 0),
         Ok(Some(text)) => tell(text.as_slice(), witness),
-        Err(CompareFault::First(fault)) => refused(Kind::Refused, fault.code()),
-        Err(CompareFault::Second(fault)) => refused(Kind::SecondRefused, fault.code()),
+        Err(CompareFault::First(fault)) => refused(Kind::Refused as u32, fault.code()),
+        Err(CompareFault::Second(fault)) => refused(Kind::SecondRefused as u32, fault.code()),
         Err(CompareFault::NoMemory) => NO_MEMORY,
     }
 }

@@ -133,9 +133,9 @@ fn join_sizes(
     let (p, q, n) = (table.states.len(), table.rules.len(), table.outputs.len());
     if p <= states.len() && q <= rules.len() && n <= outputs.len() {
         write_table(table, states, rules, outputs);
-        answer_of(Kind::Done, p, q, n)
+        answer_of(Kind::Done as u32, p, q, n)
     } else {
-        answer_of(Kind::TooShort, p, q, n)
+        answer_of(Kind::TooShort as u32, p, q, n)
     }
 }
 
@@ -151,9 +151,9 @@ pub fn join_answer(
 {
     match outcome {
         Ok(table) => join_sizes(&table, states, rules, outputs),
-        Err(JoinFault::First(fault)) => refused(Kind::Refused, fault.code()),
-        Err(JoinFault::Second(fault)) => refused(Kind::SecondRefused, fault.code()),
-        Err(JoinFault::TooLarge) => answer_of(Kind::Otherwise, 0, 0, 0),
+        Err(JoinFault::First(fault)) => refused(Kind::Refused as u32, fault.code()),
+        Err(JoinFault::Second(fault)) => refused(Kind::SecondRefused as u32, fault.code()),
+        Err(JoinFault::TooLarge) => answer_of(Kind::Otherwise as u32, 0, 0, 0),
         Err(JoinFault::NoMemory) => NO_MEMORY,
     }
 }

@@ -17,6 +17,8 @@ pub struct TooLarge;
 
 // The queue of the pairs is full.
 impl From<Full> for TooLarge {
+    ghost from_gives = { λ _ r. r ≡ record {} };
+
     fn from(_full: Full) -> TooLarge {
         TooLarge
     }

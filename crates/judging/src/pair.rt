@@ -2,7 +2,7 @@
 ghost use Rattle.std.specs.Prelude.{◌≡◌, ◌*◌, length};
 ghost use Rattle.table.specs.Table.{table_of};
 ghost use Rattle.steps.specs.Places.{steps_needed_lem};
-ghost use Rattle.judging.specs.Frames.{Framed, width_of, room_of};
+ghost use Rattle.judging.specs.Frames.{Framed, room_of};
 
 use crate::frame::{Frame, frame_of};
 use alphabet::Alphabet;
@@ -16,13 +16,13 @@ pub struct FilterPair<'f, 'a, A: Alphabet> {
     pub right: &'f Filter<'a, A>,
     pub frame: Frame,
     pub ghost framed: { Framed (table_of left.now.draft) (table_of right.now.draft) frame },
-    pub ghost width: { frame.width ≡ width_of (table_of left.now.draft) (table_of right.now.draft) },
 }
 
 impl<'f, 'a, A: Alphabet> FilterPair<'f, 'a, A> {
     pub fn new(left: &'f Filter<'a, A>, right: &'f Filter<'a, A>) -> FilterPair<'f, 'a, A>
         ensures left { result.left.now ≡ left.now }
         ensures right { result.right.now ≡ right.now }
+        ensures room { result.frame.room ≡ room_of (table_of left.now.draft) (table_of right.now.draft) }
     {
         let frame = frame_of(left, right);
         FilterPair { left, right, frame }
@@ -37,7 +37,7 @@ impl<'f, 'a, A: Alphabet> FilterPair<'f, 'a, A> {
 
     // How many scratch symbols it needs.
     pub fn symbols(&self) -> usize
-        ensures { result ≡ 6 * room_of (table_of self.now.left.now.draft) (table_of self.now.right.now.draft) }
+        ensures { result ≡ 6 * self.now.frame.room }
     {
         6 * self.frame.room
     }

@@ -39,6 +39,13 @@ front_over out k n es h =
     ∙ ap (λ l. over l 2 (image_all entry_code es)) two
     ∙ over_more out 0 (k ∷ n ∷ []) (image_all entry_code es) 2 (omega arith) refl
 
+-- three pieces, one behind another
+pub three_over : (out x y z : List ℕ) (p q r : ℕ) → p ≤ length out → q ≡ p + length x → r ≡ q + length y → over (over (over out p x) q y) r z ≡ over out p (x ++ (y ++ z))
+three_over out x y z p q r h e f =
+    ap (λ l. over l r z) (over_more out p x y q h e)
+    ∙ over_more out p (x ++ y) z r h (omega (arith, length-append x y))
+    ∙ ap (over out p) (append_assoc x y z)
+
 module _ {G T : Type 0} (guard : Code G) (term : Code T) (guards : Exact guard) (wide : guard.width ≡ 8) (free : Free guard) (terms : Exact term) where
   -- how long the parts of a body are
   pub states_size : (F : Table G T) → length (image_all state_code F.states) ≡ length F.states * 3
@@ -49,6 +56,13 @@ module _ {G T : Type 0} (guard : Code G) (term : Code T) (guards : Exact guard) 
 
   pub outputs_size : (F : Table G T) → length (image_all term F.outputs) ≡ length F.outputs * term.width
   outputs_size F = size_all term terms F.outputs
+
+  pub body_length : (F : Table G T) → length (body_of guard term F) ≡ length F.states * 3 + length F.rules * 14 + length F.outputs * term.width
+  body_length F =
+      let S = image_all state_code F.states in
+      let R = image_all (rule_code guard) F.rules in
+      let O = image_all term F.outputs in
+      omega (arith, length-append S (R ++ O), length-append R O, states_size F, rules_size F, outputs_size F)
 
   -- one table of a shelf
   pub table_at : (M : Memory G T) (i : ℕ) (es : List Entry) (j : ℕ) (d : Table G T) → j < length es → get_or (tables_from M i es) j d ≡ holding M (i + j)

@@ -1,4 +1,4 @@
-use Rattle.std.proofs.Common.{◌≡◌, ℕ, ◌+◌, ◌*◌, ◌<◌, List, length, set, sym, ap, ◌∙◌, subst, arith}
+use Rattle.std.proofs.Common.{◌≡◌, ℕ, ◌<◌, List, length, set, sym, ap, ◌∙◌, subst, arith}
 use Rattle.queue.specs.Held.{entries}
 use Rattle.table.specs.Table.{table_of}
 use Rattle.table.proofs.Soundness.{sound_from_checked}
@@ -23,7 +23,6 @@ search-requires g c =
     let R = sound_from_checked m g.A.Alphabet.laws H P.right.now.sound in
     let fit = cells_fit (steps_needed_lem f.left f.right) f.width f.room B.low B.room in
     let size : steps_needed_lem f.left f.right ≡ steps_needed_lem (length F.states) (length H.states) = ap (λ p. steps_needed_lem p f.right) B.left ∙ ap (steps_needed_lem (length F.states)) B.right in
-    let room : f.room ≡ room_of F H = B.room ∙ ap (λ n. (n + 1) * f.width) size ∙ ap (λ w. (steps_needed_lem (length F.states) (length H.states) + 1) * w) P.width in
     let C = c.split_at_mut-cells.result.0.now in
     let front = c.split_at_mut-cells.ensures.front_len in
     let some : 0 < length C = omega (arith, front) in
@@ -33,7 +32,7 @@ search-requires g c =
     record {
       slots = omega (arith, c.start.ensures.slots, c.room.ensures, c.steps.ensures, c.if-room-steps.false, size);
       cells = omega (arith, c.start.auto.cells, front, fit);
-      room = omega (arith, c.split_at_mut-cells.ensures.back_len, c.if-symbols.false, c.symbols.ensures, room);
+      room = omega (arith, c.split_at_mut-cells.ensures.back_len, c.if-symbols.false, c.symbols.ensures);
       turned = subst (λ n. Turned m F H f.left f.right f.width (entries c.start.new.queue) c.start.new.cells n) (sym (c.start.ensures.taken ∙ c.requires.taken)) cells_are;
     }
 
@@ -48,11 +47,12 @@ returns g c =
     let S = sound_from_checked m g.A.Alphabet.laws F P.left.now.sound in
     let R = sound_from_checked m g.A.Alphabet.laws H P.right.now.sound in
     let size : steps_needed_lem f.left f.right ≡ steps_needed_lem (length F.states) (length H.states) = ap (λ p. steps_needed_lem p f.right) B.left ∙ ap (steps_needed_lem (length F.states)) B.right in
+    let room : f.room ≡ room_of F H = rw (c.new-pair.ensures.left, c.new-pair.ensures.right) c.new-pair.ensures.room in
     rw (← c.new-pair.ensures.left, ← c.new-pair.ensures.right)
     (record {
       answer = (
         omega (arith, c.room.ensures, c.steps.ensures, c.if-room-steps.false),
-        omega (arith, c.if-symbols.false, c.symbols.ensures),
+        omega (arith, c.if-symbols.false, c.symbols.ensures, room),
         c.search.ensures.told,
         subst (λ n. Early n (entries c.search.new.queue) c.search.result) size c.search.ensures.early,
       );
