@@ -15,7 +15,7 @@ where
     // both alphabets of ranges.
     fn spare() -> (Self::Guard, Self::Term);
 
-    // Prints a symbol. How many digits it has stands in each text, since `write!` takes no width from a value.
+    // Prints a symbol. Each alphabet has a text of its own: one function for both widths would be no shorter.
     fn push_symbol(line: &mut String, symbol: u32) -> Result<(), AllocError>;
 }
 
