@@ -16,6 +16,7 @@ use ranges::Bytes;
 use script::{ByteScript, MarkScript, Script, shown, text_of};
 use std::env;
 use std::io::Read;
+use std::str::FromStr;
 use table::Draft;
 
 // A filter to use.
@@ -30,18 +31,22 @@ enum Choice {
 // The filters in the order in which they are used.
 const CHOICES: [Choice; 4] = [Choice::Escape, Choice::Lower, Choice::Ascii, Choice::Public];
 
-impl Choice {
-    // The filter that an argument names.
-    fn named(name: &str) -> Option<Choice> {
+// The filter that an argument names.
+impl FromStr for Choice {
+    type Err = anyhow::Error;
+
+    fn from_str(name: &str) -> anyhow::Result<Choice> {
         match name {
-            "escape" => Some(Choice::Escape),
-            "lower" => Some(Choice::Lower),
-            "ascii" => Some(Choice::Ascii),
-            "public" => Some(Choice::Public),
-            _ => None,
+            "escape" => Ok(Choice::Escape),
+            "lower" => Ok(Choice::Lower),
+            "ascii" => Ok(Choice::Ascii),
+            "public" => Ok(Choice::Public),
+            _ => Err(anyhow!("the filters are: escape lower ascii public")),
         }
     }
+}
 
+impl Choice {
     // Cleans a note.
     fn clean(self, rt: &HostRuntime, note: &[u8]) -> anyhow::Result<()> {
         match self {
@@ -61,10 +66,7 @@ impl Choice {
 fn choices(rt: &HostRuntime) -> anyhow::Result<Vec<Choice>> {
     let mut chosen = Vec::new(rt.alloc());
     for name in env::args(rt)?.skip(1) {
-        let Some(choice) = Choice::named(name.as_str()) else {
-            return Err(anyhow!("the filters are: escape lower ascii public"));
-        };
-        chosen.push(choice)?;
+        chosen.push(name.as_str().parse::<Choice>()?)?;
     }
     if chosen.is_empty() {
         chosen.extend_from_slice(&CHOICES)?;
@@ -90,9 +92,7 @@ fn report<S: Script>(
         }
         Err(CleanFault::Refused(fault)) => {
             let code = fault.code();
-            let number = code.number;
-            let place = code.place;
-            println!(rt; "    refused {number} {place}")?;
+            println!(rt; "    refused {code}")?;
             Ok(())
         }
         Err(CleanFault::NoMemory) => Err(anyhow!("not enough memory")),

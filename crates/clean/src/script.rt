@@ -1,5 +1,5 @@
 // How notes are read into texts, and how texts are shown.
-use marks::{letter, mark_of};
+use marks::{SIZE, letter, mark_of};
 use std::alloc::{AllocError, Global};
 
 // How the symbols of an alphabet are written.
@@ -12,7 +12,7 @@ pub trait Script {
 }
 
 // What a character that is no mark is read as: a symbol that no guard holds.
-const NO_MARK: u32 = 37;
+const NO_MARK: u32 = SIZE;
 
 pub struct ByteScript {}
 
@@ -43,7 +43,8 @@ pub fn text_of<S: Script>(heap: Global, note: &[u8]) -> Result<Vec<u32>, AllocEr
     note.iter().map(|byte| S::symbol(*byte)).collect(heap)
 }
 
-// Printable ASCII stands as it is; any other byte is shown as \x and two digits.
+// Printable ASCII stands as it is; any other byte is shown as \x and two digits. `escape_default` shows quotes and line
+// ends in forms of their own, and has small digits.
 fn show_byte(line: &mut String, byte: u8) -> Result<(), AllocError> {
     match byte {
         0x20..=0x7e => line.push(byte as char),

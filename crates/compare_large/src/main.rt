@@ -15,7 +15,7 @@ const SPAN: u32 = 69632;
 
 const COUNT: u16 = 64;
 
-// A table in memory of its own.
+// A table in memory of its own: a program shares no type of tests or of calls from C, and this one is short.
 #[derive(Drop)]
 struct Table {
     states: Vec<State>,
@@ -56,34 +56,41 @@ fn cycle(heap: Global, count: u16) -> Result<Table, AllocError> {
     })
 }
 
-// The number that a state has: its own, or counted from the other end with state 0 kept.
-fn numbered(state: u16, turned: bool) -> u16 {
+// The order of a table's states and of the rules of a state.
+#[derive(Clone, Copy)]
+enum Order {
+    Rising,
+    // From the other end, with state 0 kept.
+    Turned,
+}
+
+// The number that a state has in this order.
+fn numbered(state: u16, order: Order) -> u16 {
     let state = state % COUNT;
-    if turned && state != 0 {
-        COUNT - state
-    } else {
-        state
+    match order {
+        Order::Turned if state != 0 => COUNT - state,
+        _ => state,
     }
 }
 
-// A table of 64 states with 16 rules each. Turned round, its states and the rules of a state have another order.
-fn wide(heap: Global, turned: bool) -> Result<Table, AllocError> {
-    let mut states = Vec::new(heap);
+// A table of 64 states with 16 rules each.
+fn wide(heap: Global, order: Order) -> Result<Table, AllocError> {
+    let states = vec![in heap; State { mark: 1, finals: 0 }; COUNT as usize]?;
     let mut rules = Vec::new(heap);
     let mut outputs = Vec::new(heap);
-    for _ in 0..COUNT {
-        states.push(State { mark: 1, finals: 0 })?;
-    }
     for state in 0..COUNT {
         for place in 0..ROW {
-            let part = if turned { ROW - 1 - place } else { place };
-            let next = numbered(state * 5 + part as u16, turned);
+            let part = match order {
+                Order::Rising => place,
+                Order::Turned => ROW - 1 - place,
+            };
+            let next = numbered(state * 5 + part as u16, order);
             let low = part * SPAN;
             let guard = Range {
                 low,
                 high: low + (SPAN - 1),
             };
-            let from = numbered(state, turned);
+            let from = numbered(state, order);
             rules.push(Rule {
                 state: from,
                 next,
@@ -133,8 +140,8 @@ fn run(rt: &HostRuntime) -> anyhow::Result<()> {
     report(
         rt,
         "1,024 rules, turned round",
-        &wide(heap, false)?,
-        &wide(heap, true)?,
+        &wide(heap, Order::Rising)?,
+        &wide(heap, Order::Turned)?,
     )
 }
 

@@ -1,4 +1,5 @@
-// Small filters over bytes and marks to compare.
+// Small filters over bytes and marks to compare. Tests of other crates have some of the same, each its own, so that a
+// change for one test leaves the others what they are.
 use mark_laws::{MarkSet, MarkTerm};
 use marks::Marks;
 use ranges::{Bytes, Range, RangeTerm};

@@ -1,4 +1,5 @@
-// The exported calls. A table is three flat lists.
+// The exported calls. A table is three flat lists. A caller in C reads an answer and no Result: a call that has no memory
+// for a table answers so with `let else`, since `?` would return an error.
 ghost use Rattle.exports.specs.Flats.{flat_table};
 ghost use Rattle.exports.specs.Calls.{Checks, Transduced, Compared};
 ghost use Rattle.exports.specs.Joins.{JoinedTo};

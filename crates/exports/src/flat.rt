@@ -5,6 +5,7 @@ ghost use Rattle.exports.specs.Flats.{state_of, rule_of_lem, term_of, flat_state
 use ranges::{Range, RangeTerm};
 use table::{Rule, State};
 
+// The mark is a number and no bool, since C callers fill it in: one over 1 is found by the check.
 #[repr(C)]
 #[derive(Clone, Copy)]
 pub struct FlatState {
@@ -115,7 +116,8 @@ impl From<RangeTerm> for FlatTerm {
     }
 }
 
-// Writes entries to the front of a list of flat ones that has room for them.
+// Writes entries to the front of a list of flat ones that has room for them. By places, since after a `zip` with
+// `iter_mut` nothing would be known of what the list holds.
 pub fn spread<E: Copy, F: From<E> + Copy>(entries: &[E], list: &mut [F])
     requires { length entries.now ≤ length list.old }
     ensures { (f : E → F) → ((e : E) (r : F) → F.from_gives e r → r ≡ f e) → list.new ≡ map f entries.now ++ drop (length entries.now) list.old }

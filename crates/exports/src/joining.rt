@@ -14,6 +14,7 @@ use join::join;
 use join_ways::TooLarge;
 use ranges::{Bytes, Range, RangeTerm};
 use std::alloc::{AllocError, Global};
+use table::check::{MOST_OUTPUTS, MOST_RULES, MOST_STATES};
 use table::{Draft, Filter, Rule, State, TableFault};
 
 // Why two filters are not joined. Comparing has a type of its own, since it has no limit to be over.
@@ -45,6 +46,7 @@ impl From<TooLarge> for JoinFault {
     }
 }
 
+// What the lists hold before a join is written to them. Entries have no default, since none is the usual one.
 const STATE: State = State { mark: 0, finals: 0 };
 
 const RULE: Rule<Range> = Rule {
@@ -64,10 +66,10 @@ fn join_sound<'x>(
 ) -> Result<Owned, JoinFault>
     ensures { Composed (table_of first.now.draft) (table_of second.now.draft) result }
 {
-    let mut states = vec![in heap; STATE; 64]?;
-    let mut rules = vec![in heap; RULE; 1024]?;
-    let mut outputs = vec![in heap; TERM; 4096]?;
-    let mut pairs = vec![in heap; (0u16, 0u16); 64]?;
+    let mut states = vec![in heap; STATE; MOST_STATES]?;
+    let mut rules = vec![in heap; RULE; MOST_RULES]?;
+    let mut outputs = vec![in heap; TERM; MOST_OUTPUTS]?;
+    let mut pairs = vec![in heap; (0u16, 0u16); MOST_STATES]?;
     let sizes = join(
         first,
         second,

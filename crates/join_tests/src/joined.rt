@@ -4,6 +4,7 @@ use join::join;
 use join_pairs::Pair;
 use join_ways::TooLarge;
 use std::alloc::{AllocError, Global};
+use table::check::{MOST_OUTPUTS, MOST_RULES, MOST_STATES};
 use table::{Draft, Filter, Rule, State, TableFault};
 
 // How long the lists for a joined filter are.
@@ -16,14 +17,14 @@ pub struct Room {
 }
 
 pub const ENOUGH: Room = Room {
-    states: 64,
-    rules: 1024,
-    outputs: 4096,
-    pairs: 64,
+    states: MOST_STATES,
+    rules: MOST_RULES,
+    outputs: MOST_OUTPUTS,
+    pairs: MOST_STATES,
 };
 
 // Why there is no join.
-#[derive(Clone, Copy)]
+#[derive(Clone, Copy, Debug, PartialEq)]
 pub enum NoJoin {
     Unsound,
     TooLarge,
@@ -48,7 +49,7 @@ impl From<AllocError> for NoJoin {
     }
 }
 
-// A table in memory of its own.
+// A table in memory of its own, for every alphabet: the one of the calls from C is for bytes and has contracts.
 #[derive(Drop)]
 pub struct Owned<A: Alphabet> {
     pub states: Vec<State>,

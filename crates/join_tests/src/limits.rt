@@ -75,14 +75,11 @@ fn split(heap: Global) -> Result<Owned<Bytes>, AllocError> {
     Ok(table)
 }
 
-// Whether two tables are joined, or too large to be; none where something else is wrong.
-fn fits(heap: Global, one: &Owned<Bytes>, other: &Owned<Bytes>) -> Option<bool> {
+// Whether two tables are joined, or why they are not.
+fn fits(heap: Global, one: &Owned<Bytes>, other: &Owned<Bytes>) -> Result<(), NoJoin> {
     let (first, second) = (one.draft(), other.draft());
-    match join_into(heap, &first, &second, ENOUGH, BYTE_RULE, BYTE_TERM) {
-        Ok(_) => Some(true),
-        Err(NoJoin::TooLarge) => Some(false),
-        Err(_) => None,
-    }
+    join_into(heap, &first, &second, ENOUGH, BYTE_RULE, BYTE_TERM)?;
+    Ok(())
 }
 
 #[test]
@@ -90,21 +87,24 @@ fn limits_of_joins(rt: HostRuntime) -> Result<(), Fail> {
     let heap = rt.alloc();
     assert_eq!(rt;
         fits(heap, &cycle(heap, 64, 1)?, &cycle(heap, 1, 1)?),
-        Some(true)
+        Ok(())
     );
     assert_eq!(rt;
         fits(heap, &cycle(heap, 5, 1)?, &cycle(heap, 13, 1)?),
-        Some(false)
+        Err(NoJoin::TooLarge)
     );
     assert_eq!(rt;
         fits(heap, &cycle(heap, 1, 32)?, &cycle(heap, 1, 1)?),
-        Some(true)
+        Ok(())
     );
     assert_eq!(rt;
         fits(heap, &cycle(heap, 1, 11)?, &cycle(heap, 1, 3)?),
-        Some(false)
+        Err(NoJoin::TooLarge)
     );
-    assert_eq!(rt; fits(heap, &wide(heap, 4, 0)?, &split(heap)?), Some(true));
-    assert_eq!(rt; fits(heap, &wide(heap, 4, 1)?, &split(heap)?), Some(false));
+    assert_eq!(rt; fits(heap, &wide(heap, 4, 0)?, &split(heap)?), Ok(()));
+    assert_eq!(rt;
+        fits(heap, &wide(heap, 4, 1)?, &split(heap)?),
+        Err(NoJoin::TooLarge)
+    );
     Ok(())
 }

@@ -22,10 +22,7 @@ fn joins_to<'x>(
         return false;
     };
     let draft = joined.draft();
-    match compare_drafts(heap, &draft, third) {
-        Ok(None) => true,
-        _ => false,
-    }
+    matches!(compare_drafts(heap, &draft, third), Ok(None))
 }
 
 // Whether the join of two filters writes this for a text.
@@ -53,10 +50,10 @@ fn too_large<'x>(
     second: &'x Draft<'x, Bytes>,
     room: Room,
 ) -> bool {
-    match join_into(heap, first, second, room, BYTE_RULE, BYTE_TERM) {
-        Err(NoJoin::TooLarge) => true,
-        _ => false,
-    }
+    matches!(
+        join_into(heap, first, second, room, BYTE_RULE, BYTE_TERM),
+        Err(NoJoin::TooLarge)
+    )
 }
 
 #[test]
@@ -82,16 +79,17 @@ fn turns_of_marks(rt: HostRuntime) -> Result<(), Fail> {
     let heap = rt.alloc();
     let there = samples::turn_there();
     let back = samples::turn_back();
-    match join_into(heap, &there, &back, ENOUGH, MARK_RULE, MARK_TERM) {
-        Ok(joined) => {
-            let draft = joined.draft();
-            match compare_drafts(heap, &draft, &samples::copy_marks()) {
-                Ok(None) => Ok(()),
-                _ => Err(Fail::new("the turns do not undo each other")),
-            }
-        }
-        Err(_) => Err(Fail::new("the turns are not joined")),
-    }
+    let joined = join_into(heap, &there, &back, ENOUGH, MARK_RULE, MARK_TERM).map_err(|_| Fail::new(
+        "the turns are not joined",
+    ))?;
+    let draft = joined.draft();
+    assert!(rt;
+        matches!(
+            compare_drafts(heap, &draft, &samples::copy_marks()),
+            Ok(None)
+        )
+    );
+    Ok(())
 }
 
 #[test]
@@ -136,9 +134,9 @@ fn lists_too_short(rt: HostRuntime) -> Result<(), Fail> {
     let heap = rt.alloc();
     let first = lower();
     let second = escape();
-    let Ok(joined) = join_into(heap, &first, &second, ENOUGH, BYTE_RULE, BYTE_TERM) else {
-        return Err(Fail::new("not joined"));
-    };
+    let joined = join_into(heap, &first, &second, ENOUGH, BYTE_RULE, BYTE_TERM).map_err(
+        |_| Fail::new("not joined"),
+    )?;
     let exact = Room {
         states: joined.states.len(),
         rules: joined.rules.len(),
@@ -198,21 +196,18 @@ fn lists_too_short(rt: HostRuntime) -> Result<(), Fail> {
 #[test]
 fn ways_that_die(rt: HostRuntime) -> Result<(), Fail> {
     let heap = rt.alloc();
-    match join_into(
+    let joined = join_into(
         heap,
         &samples::write_two(),
         &samples::copy_a(),
         ENOUGH,
         BYTE_RULE,
         BYTE_TERM,
-    ) {
-        Ok(joined) => {
-            assert_eq!(rt; joined.states.len(), 1);
-            assert_eq!(rt; joined.rules.len(), 0);
-            Ok(())
-        }
-        Err(_) => Err(Fail::new("not joined")),
-    }
+    )
+    .map_err(|_| Fail::new("not joined"))?;
+    assert_eq!(rt; joined.states.len(), 1);
+    assert_eq!(rt; joined.rules.len(), 0);
+    Ok(())
 }
 
 // Whether a filter and then another write for a text what their join writes, or one of them rejects and so does it.
@@ -248,9 +243,9 @@ fn many_texts(rt: HostRuntime) -> Result<(), Fail> {
     let heap = rt.alloc();
     let first = samples::write_twice();
     let second = samples::copy_and_close();
-    let Ok(joined) = join_into(heap, &first, &second, ENOUGH, BYTE_RULE, BYTE_TERM) else {
-        return Err(Fail::new("not joined"));
-    };
+    let joined = join_into(heap, &first, &second, ENOUGH, BYTE_RULE, BYTE_TERM).map_err(
+        |_| Fail::new("not joined"),
+    )?;
     let draft = joined.draft();
     for a in 0..16u32 {
         for b in 0..16u32 {

@@ -1,4 +1,5 @@
-// Filters to file, join and compare, and shelves with room for them.
+// Filters to file, join and compare, and shelves with room for them. Tests of other crates have some of the same, each
+// its own, so that a change for one test leaves the others what they are.
 use crate::memory::{Memory, Room, opened};
 use mark_laws::{MarkSet, MarkTerm};
 use marks::Marks;

@@ -15,11 +15,6 @@ use std::alloc::{AllocError, Global};
 use steps::Step;
 use table::{Rule, State};
 
-// One item some times.
-pub fn filled<T: Copy>(heap: Global, item: T, count: usize) -> Result<Vec<T>, AllocError> {
-    Ok(vec![in heap; item; count]?)
-}
-
 // Scratch, and the lists for a joined filter, in memory of their own.
 #[derive(Drop)]
 struct Desk {
@@ -37,8 +32,8 @@ struct OwnLists<G: Copy, T: Copy> {
 
 fn desk_of(heap: Global, lent: Lent) -> Result<Desk, AllocError> {
     Ok(Desk {
-        steps: filled(heap, Step::default(), lent.steps)?,
-        symbols: filled(heap, 0, lent.symbols)?,
+        steps: vec![in heap; Step::default(); lent.steps]?,
+        symbols: vec![in heap; 0; lent.symbols]?,
     })
 }
 
@@ -60,10 +55,10 @@ fn lists_of<A: Alphabet, S: Subject<A>>(
         guard: S::guard(0, 0),
     };
     Ok(OwnLists {
-        states: filled(heap, State { mark: 0, finals: 0 }, lists.states)?,
-        rules: filled(heap, rule, lists.rules)?,
-        outputs: filled(heap, S::term(Output::Same), lists.outputs)?,
-        pairs: filled(heap, (0, 0), lists.pairs)?,
+        states: vec![in heap; State { mark: 0, finals: 0 }; lists.states]?,
+        rules: vec![in heap; rule; lists.rules]?,
+        outputs: vec![in heap; S::term(Output::Same); lists.outputs]?,
+        pairs: vec![in heap; (0, 0); lists.pairs]?,
     })
 }
 
@@ -117,7 +112,7 @@ fn compare_on<A: Alphabet, S: Subject<A>>(
     length: usize,
 ) -> Result<String, AllocError> {
     let mut desk = desk_of(heap, lent)?;
-    let mut witness = filled(heap, 0, length)?;
+    let mut witness = vec![in heap; 0; length]?;
     let answer = compare(
         shelf,
         first,
@@ -136,7 +131,7 @@ fn transduce_on<A: Alphabet, S: Subject<A>>(
     length: usize,
 ) -> Result<String, AllocError> {
     let text = text_of::<A, S>(heap, text)?;
-    let mut output = filled(heap, 0, length)?;
+    let mut output = vec![in heap; 0; length]?;
     let answer = transduce(shelf, number, text.as_slice(), output.as_mut_slice());
     transduced::<A, S>(heap, answer, output)
 }

@@ -1,5 +1,4 @@
 // What is printed of a call: what was asked, and what was answered.
-use crate::calls::filled;
 use crate::filters::{Filter, name_of};
 use crate::subject::{Subject, shown};
 use crate::tour::{Call, Lent, Lists, Text};
@@ -16,7 +15,7 @@ pub fn text_of<A: Alphabet, S: Subject<A>>(
     match text {
         Text::Empty => Ok(Vec::new(heap)),
         Text::Three => Vec::from_slice(heap, &[10, 12, 10]),
-        Text::Foreign => filled(heap, S::last().saturating_add(1), 1),
+        Text::Foreign => vec![in heap; S::last().saturating_add(1); 1],
     }
 }
 

@@ -63,10 +63,10 @@ fn run<A: Alphabet, S: Subject<A>>(rt: &HostRuntime) -> anyhow::Result<()> {
         outputs: 1,
         guard: S::guard(1, 0),
     };
-    let mut ledger = calls::filled(heap, spare, 18)?;
-    let mut states = calls::filled(heap, State { mark: 9, finals: 9 }, 40)?;
-    let mut rules = calls::filled(heap, rule, 60)?;
-    let mut outputs = calls::filled(heap, S::term(Output::Same), 90)?;
+    let mut ledger = vec![in heap; spare; 18]?;
+    let mut states = vec![in heap; State { mark: 9, finals: 9 }; 40]?;
+    let mut rules = vec![in heap; rule; 60]?;
+    let mut outputs = vec![in heap; S::term(Output::Same); 90]?;
     let mut shelf: Shelf<'_, A> = open(
         ledger.as_mut_slice(),
         states.as_mut_slice(),

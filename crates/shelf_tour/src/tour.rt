@@ -1,7 +1,8 @@
 // The sequence of calls.
 use crate::filters::Filter;
 
-// How long the scratch is that a call is lent.
+// How long the scratch is that a call is lent. The tests of a shelf have types of the same names, which they fill in other
+// ways: a program takes nothing from tests.
 #[derive(Clone, Copy)]
 pub struct Lent {
     pub steps: usize,

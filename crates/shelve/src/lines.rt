@@ -11,10 +11,11 @@ where
     Self::Guard: GuardRecord,
     Self::Term: Record,
 {
-    // A guard and a term to fill lists with before a file is decoded into them.
+    // A guard and a term to fill lists with before a file is decoded into them; a range of zeros and a shift by none for
+    // both alphabets of ranges.
     fn spare() -> (Self::Guard, Self::Term);
 
-    // Prints a symbol.
+    // Prints a symbol. Each alphabet has a text of its own: one function for both widths would be no shorter.
     fn push_symbol(line: &mut String, symbol: u32) -> Result<(), AllocError>;
 }
 
@@ -69,7 +70,7 @@ where
     Ok(line)
 }
 
-// Says what became of a body.
+// Says what became of a body. No `Display`: the verdict's type is the library's, and how it is printed is the program's.
 fn print_verdict(rt: &HostRuntime, body: usize, verdict: Verdict) -> anyhow::Result<()> {
     match verdict {
         Verdict::Filed(number) => println!(rt; "{body} filed {number}")?,

@@ -7,12 +7,13 @@ mod lines;
 
 use anyhow::anyhow;
 use codec::{GuardRecord, Record};
+use holdings::views::MOST_HOLDINGS;
 use holdings::{Entry, Shelf};
 use lines::{Printed, print_all};
 use marks::Marks;
 use ranges::{Bytes, CodePoints};
 use shelf::open::open;
-use shelve_input::{Kind, kind_of};
+use shelve_input::{Kind, MOST_BYTES, kind_of};
 use shelving::ShelveFault;
 use shelving::shelve::shelve;
 use std::alloc::{AllocError, Global};
@@ -21,9 +22,7 @@ use std::io::Read;
 use stored::decode;
 use table::{Rule, State};
 
-// How many entries of each list a file of 16,384 bytes can have: entries have 6 bytes, states 3, rules 14, outputs 5.
-const MOST_HOLDINGS: usize = 16;
-
+// How many states, rules and outputs a file of 16,384 bytes can have: they have 3, 14 and 5 bytes.
 const MOST_STATES: usize = 5461;
 
 const MOST_RULES: usize = 1170;
@@ -45,7 +44,8 @@ struct Lists<G: Copy, T: Copy> {
 }
 
 impl<G: Copy, T: Copy> Lists<G, T> {
-    // Lists as long as a file can need, filled with this guard and term.
+    // Lists as long as a file can need, filled with this guard and term. Entries have no default, since none is the
+    // usual one.
     fn new(heap: Global, guard: G, term: T) -> Result<Lists<G, T>, AllocError> {
         let entry = Entry {
             states: 0,
@@ -108,8 +108,11 @@ fn read(rt: &HostRuntime, file: &[u8]) -> anyhow::Result<()> {
     }
 }
 
+// One byte more than a file may have shows that it is too long.
 fn main(rt: HostRuntime) -> anyhow::Result<()> {
     let mut file = Vec::new(rt.alloc());
-    rt.stdin().take(16385).read_to_end(&mut file)?;
+    rt.stdin()
+        .take(MOST_BYTES as u64 + 1)
+        .read_to_end(&mut file)?;
     read(&rt, file.as_slice())
 }

@@ -3,12 +3,10 @@ use alphabet::Alphabet;
 use anyhow::anyhow;
 use codec::{GuardRecord, Record, Stored};
 use holdings::{Entry, Head, Shelf};
+use shelve_input::MOST_BYTES;
 use std::alloc::Global;
 use stored::{decode, encode};
 use table::{Draft, Rule, State};
-
-// The most bytes of an example.
-const MOST_BYTES: usize = 16384;
 
 // Ledger and lists of a shelf.
 #[derive(Drop)]

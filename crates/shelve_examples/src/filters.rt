@@ -1,4 +1,4 @@
-// The filters of the examples.
+// The filters of the examples. Where tests have the like, each has its own, so that no test decides what a file holds.
 use builtin::{bytes, shelf_marks};
 use marks::{MarkSet, MarkTerm, Marks};
 use ranges::{Bytes, CodePoints, Range, RangeTerm};

@@ -43,7 +43,7 @@ pub enum InputFault {
     NoAlphabet,
 }
 
-// A fault as it is reported.
+// A fault as it is reported: `docs/FORMAT.md` lists the number, which is what is printed.
 #[derive(Clone, Copy, Debug, PartialEq)]
 pub struct InputCode {
     pub number: u8,
@@ -51,7 +51,7 @@ pub struct InputCode {
 }
 
 impl InputFault {
-    // The fault as it is reported. A method, since a `From` would not say at a call what it gives.
+    // The fault as it is reported. A method and no `From`, since `fault.code()` reads shorter at each call.
     pub fn code(self) -> InputCode
         ensures { result ≡ code_of self }
     {

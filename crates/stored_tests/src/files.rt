@@ -1,6 +1,5 @@
 // Sample files, and what opening one answers.
-use marks::Marks;
-use ranges::Bytes;
+use codec::{GuardRecord, Record, Stored};
 use reader::Reader;
 use stored_laws::StoredFault;
 
@@ -15,18 +14,11 @@ pub const TURN: [u8; 30] = [
     1,
 ];
 
-// The fault of a file over bytes, or none.
-pub fn fault_of_bytes(file: &[u8]) -> Option<StoredFault> {
-    match Reader::open::<Bytes>(file) {
-        Ok(_) => None,
-        Err(fault) => Some(fault),
-    }
-}
-
-// The fault of a file over marks, or none.
-pub fn fault_of_marks(file: &[u8]) -> Option<StoredFault> {
-    match Reader::open::<Marks>(file) {
-        Ok(_) => None,
-        Err(fault) => Some(fault),
-    }
+// The fault of a file over an alphabet, or none.
+pub fn fault_of<A: Stored>(file: &[u8]) -> Option<StoredFault>
+where
+    A::Guard: GuardRecord,
+    A::Term: Record,
+{
+    Reader::open::<A>(file).err()
 }

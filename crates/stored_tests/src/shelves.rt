@@ -1,4 +1,5 @@
 // Decoding onto short lists, and writing shelves that cannot be read.
+use crate::files::fault_of;
 use answers::Fault;
 use holdings::{Entry, Shelf};
 use ranges::{Bytes, Range, RangeTerm};
@@ -94,6 +95,6 @@ fn counts_over_the_limits_are_no_fault_of_a_file(rt: HostRuntime) -> Result<(), 
     bytes[0] = 1;
     bytes[1] = 1;
     bytes[3] = 65;
-    assert_eq!(rt; crate::files::fault_of_bytes(bytes), None);
+    assert_eq!(rt; fault_of::<Bytes>(bytes), None);
     Ok(())
 }

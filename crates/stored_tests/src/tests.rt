@@ -1,58 +1,65 @@
 // What files are refused for, and what decoding and writing leave.
-use crate::files::{COPY, TURN, fault_of_bytes, fault_of_marks};
+use crate::files::{COPY, TURN, fault_of};
 use holdings::{Entry, Shelf};
+use marks::Marks;
 use ranges::{Bytes, Range, RangeTerm};
 use stored::{StoredFault, decode, encode};
 use table::{Rule, State};
 
 #[test]
 fn whole_files_open(rt: HostRuntime) {
-    assert_eq!(rt; fault_of_bytes(&COPY), None);
-    assert_eq!(rt; fault_of_marks(&TURN), None);
-    assert_eq!(rt; fault_of_bytes(&[1, 0]), None);
+    assert_eq!(rt; fault_of::<Bytes>(&COPY), None);
+    assert_eq!(rt; fault_of::<Marks>(&TURN), None);
+    assert_eq!(rt; fault_of::<Bytes>(&[1, 0]), None);
 }
 
 #[test]
 fn a_file_cut_anywhere_is_cut_short(rt: HostRuntime) {
     for n in 0..30 {
-        assert_eq!(rt; fault_of_bytes(&COPY[0..n]), Some(StoredFault::CutShort(n)));
+        assert_eq!(rt;
+            fault_of::<Bytes>(&COPY[0..n]),
+            Some(StoredFault::CutShort(n))
+        );
     }
 }
 
 #[test]
 fn bytes_left_over_are_named(rt: HostRuntime) {
-    assert_eq!(rt; fault_of_bytes(&[1, 0, 7]), Some(StoredFault::LeftOver(2)));
+    assert_eq!(rt;
+        fault_of::<Bytes>(&[1, 0, 7]),
+        Some(StoredFault::LeftOver(2))
+    );
     let mut longer = [0; 32];
     longer[0..30].copy_from_slice(&COPY);
-    assert_eq!(rt; fault_of_bytes(&longer), Some(StoredFault::LeftOver(30)));
+    assert_eq!(rt; fault_of::<Bytes>(&longer), Some(StoredFault::LeftOver(30)));
 }
 
 #[test]
 fn another_alphabet_and_too_many_holdings(rt: HostRuntime) {
-    assert_eq!(rt; fault_of_bytes(&TURN), Some(StoredFault::OtherAlphabet));
-    assert_eq!(rt; fault_of_marks(&COPY), Some(StoredFault::OtherAlphabet));
+    assert_eq!(rt; fault_of::<Bytes>(&TURN), Some(StoredFault::OtherAlphabet));
+    assert_eq!(rt; fault_of::<Marks>(&COPY), Some(StoredFault::OtherAlphabet));
     assert_eq!(rt;
-        fault_of_bytes(&[1, 17]),
+        fault_of::<Bytes>(&[1, 17]),
         Some(StoredFault::TooManyHoldings)
     );
     let mut sixteen = [0; 98];
     sixteen[0] = 1;
     sixteen[1] = 16;
-    assert_eq!(rt; fault_of_bytes(&sixteen), None);
+    assert_eq!(rt; fault_of::<Bytes>(&sixteen), None);
 }
 
 #[test]
 fn a_bad_byte_is_named(rt: HostRuntime) {
     let mut copy = COPY;
     copy[25] = 2;
-    assert_eq!(rt; fault_of_bytes(&copy), Some(StoredFault::BadByte(25)));
+    assert_eq!(rt; fault_of::<Bytes>(&copy), Some(StoredFault::BadByte(25)));
     let mut turn = TURN;
     turn[27] = 1;
-    assert_eq!(rt; fault_of_marks(&turn), Some(StoredFault::BadByte(27)));
+    assert_eq!(rt; fault_of::<Marks>(&turn), Some(StoredFault::BadByte(27)));
     turn[26] = 1;
-    assert_eq!(rt; fault_of_marks(&turn), Some(StoredFault::BadByte(26)));
+    assert_eq!(rt; fault_of::<Marks>(&turn), Some(StoredFault::BadByte(26)));
     turn[25] = 2;
-    assert_eq!(rt; fault_of_marks(&turn), Some(StoredFault::BadByte(25)));
+    assert_eq!(rt; fault_of::<Marks>(&turn), Some(StoredFault::BadByte(25)));
 }
 
 #[test]
@@ -93,8 +100,6 @@ fn decoded_and_written_again(rt: HostRuntime) {
     assert_eq!(rt; holdings, 1);
     assert_eq!(rt; refused, Err(StoredFault::TooShort(30)));
     assert_eq!(rt; written, Ok(30));
-    for i in 0..30 {
-        assert_eq!(rt; out[i], COPY[i]);
-    }
+    assert!(rt; out[0..30] == COPY[0..30]);
     assert_eq!(rt; out[30], 9);
 }
