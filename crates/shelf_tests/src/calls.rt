@@ -1,6 +1,6 @@
 // The calls on a shelf in memory of its own, with scratch of chosen lengths. Each sees to it that nothing changes but
 // what its answer says.
-use crate::memory::Memory;
+use crate::memory::{Memory, filled};
 use alphabet::Alphabet;
 use answers::{Comparison, Fault};
 use filter::Outcome;
@@ -17,8 +17,7 @@ use std::test::Fail;
 use steps::{Side, Step, Visit};
 use table::{Draft, Rule, State};
 
-// How long the scratch is that a call is lent. The program that goes through a shelf's calls has lists like those of this
-// file, which it fills with zeros; these are filled with what shows that a call wrote to them.
+// How long the scratch is that a call is lent.
 #[derive(Clone, Copy)]
 pub struct Lent {
     pub steps: usize,
@@ -95,8 +94,8 @@ struct Desk {
 
 fn desk_of(heap: Global, lent: Lent) -> Result<Desk, AllocError> {
     Ok(Desk {
-        steps: vec![in heap; BLANK; lent.steps]?,
-        symbols: vec![in heap; SPARE; lent.symbols]?,
+        steps: filled(heap, BLANK, lent.steps)?,
+        symbols: filled(heap, SPARE, lent.symbols)?,
     })
 }
 
@@ -123,10 +122,10 @@ fn lists_of<G: Copy, T: Copy>(
     term: T,
 ) -> Result<OwnLists<G, T>, AllocError> {
     Ok(OwnLists {
-        states: vec![in heap; State { mark: 9, finals: 9 }; lists.states]?,
-        rules: vec![in heap; rule; lists.rules]?,
-        outputs: vec![in heap; term; lists.outputs]?,
-        pairs: vec![in heap; (7, 7); lists.pairs]?,
+        states: filled(heap, State { mark: 9, finals: 9 }, lists.states)?,
+        rules: filled(heap, rule, lists.rules)?,
+        outputs: filled(heap, term, lists.outputs)?,
+        pairs: filled(heap, (7, 7), lists.pairs)?,
     })
 }
 
@@ -141,7 +140,12 @@ fn lend_lists<'l, A: Alphabet>(lists: &'l mut OwnLists<A::Guard, A::Term>) -> Jo
 
 // Whether every symbol from a place on is spare.
 fn is_spare_from(list: &[u32], from: usize) -> bool {
-    list.iter().skip(from).all(|symbol| *symbol == SPARE)
+    for symbol in list.iter().skip(from) {
+        if *symbol != SPARE {
+            return false;
+        }
+    }
+    true
 }
 
 // A refusal leaves the memory as it was; else there is one more holding, whose number is answered.
@@ -251,7 +255,7 @@ where
 {
     let before = memory.copy(heap)?;
     let mut desk = desk_of(heap, lent)?;
-    let mut witness = vec![in heap; SPARE; length]?;
+    let mut witness = filled(heap, SPARE, length)?;
     let shelf: Shelf<'_, A> = shelf_over(&mut *memory);
     let answer = compare(
         &shelf,
@@ -279,7 +283,7 @@ where
     A::Term: PartialEq,
 {
     let before = memory.copy(heap)?;
-    let mut output = vec![in heap; SPARE; length]?;
+    let mut output = filled(heap, SPARE, length)?;
     let shelf: Shelf<'_, A> = shelf_over(&mut *memory);
     let answer = transduce(&shelf, number, text, output.as_mut_slice());
     memory.head = head_of(shelf);
@@ -293,6 +297,14 @@ where
     Ok((answer, output))
 }
 
+// The fault of an answer, or none.
+pub fn fault_of<T: Drop>(answer: Result<T, Fault>) -> Option<Fault> {
+    match answer {
+        Ok(_) => None,
+        Err(fault) => Some(fault),
+    }
+}
+
 // Whether comparing found this text.
 pub fn is_text(answer: Result<Option<Vec<u32>>, Fault>, text: &[u32]) -> bool {
     match answer {
@@ -303,5 +315,8 @@ pub fn is_text(answer: Result<Option<Vec<u32>>, Fault>, text: &[u32]) -> bool {
 
 // Whether comparing found no text.
 pub fn is_equivalent(answer: Result<Option<Vec<u32>>, Fault>) -> bool {
-    matches!(answer, Ok(None))
+    match answer {
+        Ok(None) => true,
+        _ => false,
+    }
 }

@@ -1,6 +1,6 @@
 // Comparing: scratch and witness one short and exactly enough, and the texts found.
 use crate::byte_calls::{compare, compare_with, shelf_of};
-use crate::calls::{Lent, is_equivalent, is_text};
+use crate::calls::{Lent, fault_of, is_equivalent, is_text};
 use crate::samples;
 use crate::samples::ByteMemory;
 use answers::Fault;
@@ -31,7 +31,7 @@ fn short(
     let mut memory = three(rt, heap)?;
     let lent = Lent { steps, symbols };
     let answer = compare_with(rt, heap, &mut memory, first, second, lent, length)?;
-    Ok(answer.err())
+    Ok(fault_of(answer))
 }
 
 // The second number is named.

@@ -1,5 +1,6 @@
 // Damaged shelves: every call but opening refuses them, before it looks at anything else.
 use crate::byte_calls::{compare, file, join, shelf_of, transduce};
+use crate::calls::fault_of;
 use crate::samples;
 use crate::samples::ByteMemory;
 use alphabet::Cause;
@@ -34,11 +35,11 @@ fn all_refuse(
     for (first, second) in [(1, 2), (0, 99)] {
         assert_eq!(rt; join(rt, heap, memory, first, second)?, Err(fault));
         assert_eq!(rt;
-            compare(rt, heap, memory, first, second)?.err(),
+            fault_of(compare(rt, heap, memory, first, second)?),
             Some(fault)
         );
         let (answer, _) = transduce(rt, heap, memory, first, &[0x41], 9)?;
-        assert_eq!(rt; answer.err(), Some(fault));
+        assert_eq!(rt; fault_of(answer), Some(fault));
     }
     Ok(())
 }

@@ -1,6 +1,6 @@
 // Filing: a full shelf, doubles, and lists that are just long enough.
 use crate::byte_calls::{compare, file, join, transduce};
-use crate::calls::{is_equivalent, is_text};
+use crate::calls::{fault_of, is_equivalent, is_text};
 use crate::memory::{Room, WIDE};
 use crate::samples;
 use crate::samples::{ByteMemory, COPY};
@@ -80,11 +80,11 @@ fn empty_lists(rt: HostRuntime) -> Result<(), Fail> {
         Err(Fault::NoHolding(1))
     );
     assert_eq!(rt;
-        compare(&rt, heap, &mut memory, 1, 1)?.err(),
+        fault_of(compare(&rt, heap, &mut memory, 1, 1)?),
         Some(Fault::NoHolding(1))
     );
     let (answer, _) = transduce(&rt, heap, &mut memory, 1, &[], 0)?;
-    assert_eq!(rt; answer.err(), Some(Fault::NoHolding(1)));
+    assert_eq!(rt; fault_of(answer), Some(Fault::NoHolding(1)));
     Ok(())
 }
 

@@ -42,6 +42,11 @@ const SPARE_ENTRY: Entry = Entry {
 
 const SPARE_STATE: State = State { mark: 9, finals: 9 };
 
+// One item some times.
+pub fn filled<T: Copy>(heap: Global, item: T, count: usize) -> Result<Vec<T>, AllocError> {
+    Ok(vec![in heap; item; count]?)
+}
+
 // A shelf that was opened over lists of these lengths.
 pub fn opened<A: Alphabet>(
     heap: Global,
@@ -49,10 +54,10 @@ pub fn opened<A: Alphabet>(
     rule: Rule<A::Guard>,
     term: A::Term,
 ) -> Result<Memory<A::Guard, A::Term>, AllocError> {
-    let mut ledger = vec![in heap; SPARE_ENTRY; room.ledger]?;
-    let mut states = vec![in heap; SPARE_STATE; room.states]?;
-    let mut rules = vec![in heap; rule; room.rules]?;
-    let mut outputs = vec![in heap; term; room.outputs]?;
+    let mut ledger = filled(heap, SPARE_ENTRY, room.ledger)?;
+    let mut states = filled(heap, SPARE_STATE, room.states)?;
+    let mut rules = filled(heap, rule, room.rules)?;
+    let mut outputs = filled(heap, term, room.outputs)?;
     let shelf: Shelf<'_, A> = open(
         ledger.as_mut_slice(),
         states.as_mut_slice(),
@@ -101,9 +106,15 @@ impl<G: Copy + PartialEq, T: Copy + PartialEq> Memory<G, T> {
 
 // Whether two lists are the same but for the places from one up to another.
 fn same_around<T: PartialEq>(one: &[T], other: &[T], from: usize, to: usize) -> bool {
-    let mut places = one.iter().zip(other.iter()).enumerate();
-    one.len() == other.len()
-        && places.all(|(place, (left, right))| *left == *right || (from..to).contains(&place))
+    if one.len() != other.len() {
+        return false;
+    }
+    for (place, (left, right)) in one.iter().zip(other.iter()).enumerate() {
+        if (place < from || to <= place) && *left != *right {
+            return false;
+        }
+    }
+    true
 }
 
 impl<G: Copy + PartialEq, T: Copy + PartialEq> Memory<G, T> {

@@ -1,6 +1,6 @@
 // Numbers without a holding, and the same number twice.
 use crate::byte_calls::{compare, join, shelf_of, transduce};
-use crate::calls::is_equivalent;
+use crate::calls::{fault_of, is_equivalent};
 use crate::samples;
 use crate::samples::ByteMemory;
 use answers::Fault;
@@ -21,7 +21,7 @@ fn are_missing(
     let fault = Fault::NoHolding(named);
     assert_eq!(rt; join(rt, heap, memory, first, second)?, Err(fault));
     assert_eq!(rt;
-        compare(rt, heap, memory, first, second)?.err(),
+        fault_of(compare(rt, heap, memory, first, second)?),
         Some(fault)
     );
     Ok(())
@@ -38,7 +38,7 @@ fn is_missing(
     are_missing(rt, heap, memory, 1, number, number)?;
     are_missing(rt, heap, memory, number, number, number)?;
     let (answer, _) = transduce(rt, heap, memory, number, &[0x41], 9)?;
-    assert_eq!(rt; answer.err(), Some(Fault::NoHolding(number)));
+    assert_eq!(rt; fault_of(answer), Some(Fault::NoHolding(number)));
     Ok(())
 }
 

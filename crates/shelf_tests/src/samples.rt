@@ -1,5 +1,4 @@
-// Filters to file, join and compare, and shelves with room for them. Tests of other crates have some of the same, each
-// its own, so that a change for one test leaves the others what they are.
+// Filters to file, join and compare, and shelves with room for them.
 use crate::memory::{Memory, Room, opened};
 use mark_laws::{MarkSet, MarkTerm};
 use marks::Marks;

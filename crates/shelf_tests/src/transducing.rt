@@ -1,5 +1,6 @@
 // Transducing by a holding: what is written, where a text is rejected, and what is refused.
 use crate::byte_calls::{file, shelf_of, transduce};
+use crate::memory::filled;
 use crate::samples;
 use crate::samples::ByteMemory;
 use answers::Fault;
@@ -73,7 +74,7 @@ fn rejected(rt: HostRuntime) -> Result<(), Fail> {
 fn long_texts(rt: HostRuntime) -> Result<(), Fail> {
     let heap = rt.alloc();
     let mut memory = three(&rt, heap)?;
-    let text = vec![in heap; 0x62; 1048577]?;
+    let text = filled(heap, 0x62, 1048577)?;
     for (number, fault) in [
         (1, Fault::LongText),
         (3, Fault::LongText),
@@ -89,7 +90,7 @@ fn long_texts(rt: HostRuntime) -> Result<(), Fail> {
 fn longest_text(rt: HostRuntime) -> Result<(), Fail> {
     let heap = rt.alloc();
     let count = 1048576;
-    let text = vec![in heap; 0x62; count]?;
+    let text = filled(heap, 0x62, count)?;
     let text = text.as_slice();
     let whole = Ok(Outcome::Written { state: 0, count });
     gives(&rt, heap, 1, text, 1048577, whole, text)?;
