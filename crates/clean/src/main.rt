@@ -62,11 +62,14 @@ impl Choice {
     }
 }
 
-// The filters that the arguments name, or all of them.
+// The filters that the arguments name, each once, or all of them.
 fn choices(rt: &HostRuntime) -> anyhow::Result<Vec<Choice>> {
     let mut chosen = Vec::new(rt.alloc());
     for name in env::args(rt)?.skip(1) {
-        chosen.push(name.as_str().parse::<Choice>()?)?;
+        let choice = name.as_str().parse::<Choice>()?;
+        if !chosen.contains(&choice) {
+            chosen.push(choice)?;
+        }
     }
     if chosen.is_empty() {
         chosen.extend_from_slice(&CHOICES)?;

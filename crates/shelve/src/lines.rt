@@ -2,7 +2,7 @@
 use codec::{GuardRecord, Record, Stored};
 use marks::{MarkSet, MarkTerm, Marks, letter};
 use ranges::{Bytes, CodePoints, Range, RangeTerm};
-use shelving::{Shelved, Verdict};
+use shelving::{Pair, Shelved};
 use std::alloc::{AllocError, Global};
 
 // An alphabet whose stored shelves are filed and printed.
@@ -70,19 +70,6 @@ where
     Ok(line)
 }
 
-// Says what became of a body. No `Display`: the verdict's type is the library's, and how it is printed is the program's.
-fn print_verdict(rt: &HostRuntime, body: usize, verdict: Verdict) -> anyhow::Result<()> {
-    match verdict {
-        Verdict::Filed(number) => println!(rt; "{body} filed {number}")?,
-        Verdict::Twin(number) => println!(rt; "{body} twin {number}")?,
-        Verdict::Refused(fault) => {
-            let number = fault.report().number;
-            println!(rt; "{body} refused {number}")?
-        }
-    }
-    Ok(())
-}
-
 // Prints all lines.
 pub fn print_all<A: Printed>(rt: &HostRuntime, shelved: &Shelved) -> anyhow::Result<()>
 where
@@ -90,11 +77,11 @@ where
     A::Term: Record,
 {
     for (i, verdict) in shelved.verdicts.as_slice().iter().enumerate() {
-        print_verdict(rt, i + 1, *verdict)?;
+        let body = i + 1;
+        println!(rt; "{body} {verdict}")?;
     }
     for pair in shelved.pairs.as_slice() {
-        let first = pair.first;
-        let second = pair.second;
+        let Pair { first, second, .. } = pair.pair;
         let text = shown::<A>(rt.alloc(), pair.text.as_slice())?;
         println!(rt; "{first} {second} {text}")?;
     }

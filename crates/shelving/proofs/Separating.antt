@@ -11,7 +11,7 @@ use Rattle.shelf_law.specs.Holdings.{numbered}
 use Rattle.shelf_law.specs.Scratch.{Scratch, scratch_of, Enough}
 use Rattle.shelf_law.specs.Comparing as comparing
 use Rattle.shelf_law.specs.Comparing.{Compares, Earliest}
-use Rattle.shelving.specs.declared.report.Pair.{Pair}
+use Rattle.shelving.specs.declared.report.ToldPair.{ToldPair}
 use Rattle.shelving.specs.Runs.{Told, none, row, pair}
 use Rattle.shelving.specs.Separable.{Separable}
 
@@ -35,19 +35,20 @@ module _ {G T : Type 0} {m : Model G T} {M : Memory G T} {i j : ℕ} {w : List �
 
 module _ {G T : Type 0} (m : Model G T) (M : Memory G T) where
   -- one pair more
-  pub told_more : (p : Pair) (ps : List Pair) → Told m M p.first p.second ps → p.second ≤ M.head.holdings → Earliest m (numbered M p.first) (numbered M p.second) (vec_items p.text)
-      → (qs : List Pair) → qs ≡ ps ++ p ∷ [] → Told m M p.first (p.second + 1) qs
-  told_more p ps T high e qs more = subst (Told m M p.first (p.second + 1)) (sym more) (pair p ps high e T)
+  pub told_more : (p : ToldPair) (ps : List ToldPair) → Told m M p.pair.first p.pair.second ps → p.pair.second ≤ M.head.holdings → p.pair.length ≡ length (vec_items p.text)
+      → Earliest m (numbered M p.pair.first) (numbered M p.pair.second) (vec_items p.text)
+      → (qs : List ToldPair) → qs ≡ ps ++ p ∷ [] → Told m M p.pair.first (p.pair.second + 1) qs
+  told_more p ps T high long e qs more = subst (Told m M p.pair.first (p.pair.second + 1)) (sym more) (pair p ps high long e T)
 
   -- no pair yet, and the next first number
-  pub told_none : (ps : List Pair) → ps ≡ [] → Told m M 1 2 ps
+  pub told_none : (ps : List ToldPair) → ps ≡ [] → Told m M 1 2 ps
   told_none ps empty = subst (Told m M 1 2) (sym empty) none
 
-  pub told_row : (i : ℕ) (ps : List Pair) → Told m M i (M.head.holdings + 1) ps → Told m M (i + 1) (i + 1 + 1) ps
+  pub told_row : (i : ℕ) (ps : List ToldPair) → Told m M i (M.head.holdings + 1) ps → Told m M (i + 1) (i + 1 + 1) ps
   told_row i ps T = let next : i + 2 ≡ i + 1 + 1 = omega arith in subst (λ j. Told m M (i + 1) j ps) next (row i (M.head.holdings + 1) ps (omega arith) T)
 
   -- and where the first number is behind the last holding, all pairs were told apart
-  pub told_at : (i : ℕ) (ps : List Pair) → i ≡ M.head.holdings + 1 → Told m M i (i + 1) ps → Told m M (M.head.holdings + 1) (M.head.holdings + 2) ps
+  pub told_at : (i : ℕ) (ps : List ToldPair) → i ≡ M.head.holdings + 1 → Told m M i (i + 1) ps → Told m M (M.head.holdings + 1) (M.head.holdings + 2) ps
   told_at i ps all T =
       let next : i + 1 ≡ M.head.holdings + 2 = omega (arith, all) in
       subst (λ j. Told m M (M.head.holdings + 1) j ps) next (subst (λ k. Told m M k (i + 1) ps) all T)

@@ -6,5 +6,5 @@ pub mod pair_texts;
 pub mod report;
 pub mod shelve;
 
-pub use report::{Pair, Verdict};
+pub use report::{Pair, ToldPair, Verdict};
 pub use shelve::{ShelveFault, Shelved};

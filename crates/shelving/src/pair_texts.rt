@@ -7,7 +7,7 @@ ghost use Rattle.shelf_law.specs.Comparing.{Earliest};
 ghost use Rattle.shelving.specs.Runs.{Told};
 ghost use Rattle.shelving.specs.Separable.{Separable};
 
-use crate::report::Pair;
+use crate::report::{Pair, ToldPair};
 use alphabet::Alphabet;
 use answers::Comparison;
 use holdings::Shelf;
@@ -50,7 +50,7 @@ fn tell_row<A: Alphabet>(
     steps: &mut [Step],
     symbols: &mut [u32],
     witness: &mut [u32],
-    pairs: &mut Vec<Pair>,
+    pairs: &mut Vec<ToldPair>,
 ) -> Result<(), AllocError>
     requires separable { Separable A.model (scratch_of (length steps.old) (length symbols.old)) (length witness.old) (memory_of shelf.now) }
     requires low { 1 ≤ first }
@@ -70,11 +70,12 @@ fn tell_row<A: Alphabet>(
             &mut *symbols,
             &mut *witness,
         )?;
-        pairs.push(Pair {
+        let pair = Pair {
             first,
             second,
-            text,
-        })?;
+            length: text.len(),
+        };
+        pairs.push(ToldPair { pair, text })?;
     }
     Ok(())
 }
@@ -86,7 +87,7 @@ pub fn tell_pairs<A: Alphabet>(
     steps: &mut [Step],
     symbols: &mut [u32],
     witness: &mut [u32],
-) -> Result<Vec<Pair>, AllocError>
+) -> Result<Vec<ToldPair>, AllocError>
     requires separable { Separable A.model (scratch_of (length steps.old) (length symbols.old)) (length witness.old) (memory_of shelf.now) }
     requires few { shelf.now.head.holdings ≤ 16 }
     ensures { IfOk result (λ pairs. Told A.model (memory_of shelf.now) (shelf.now.head.holdings + 1) (shelf.now.head.holdings + 2) pairs.items) }

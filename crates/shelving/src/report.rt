@@ -1,8 +1,9 @@
 // What became of each body, and which text distinguishes each pair of holdings.
-ghost use Rattle.std.specs.Prelude.{◌≡◌};
-ghost use Rattle.shelving.specs.Verdicts.{verdict_of_lem};
+ghost use Rattle.std.specs.Prelude.{◌≡◌, Some};
+ghost use Rattle.shelving.specs.Verdicts.{verdict_of_lem, verdict_text};
 
 use answers::Fault;
+use std::fmt;
 
 // What became of a body.
 #[derive(Clone, Copy)]
@@ -15,11 +16,34 @@ pub enum Verdict {
     Refused(Fault),
 }
 
-// Two holdings, and the earliest text that distinguishes them.
-#[derive(Drop)]
+// What became of the body, and the number of the holding or of the fault.
+impl fmt::Display for Verdict {
+    ghost output = { λ v. Some (verdict_text v) };
+
+    fn fmt<W: fmt::Write>(&self, f: &mut fmt::Formatter<W>) -> fmt::Result {
+        match *self {
+            Verdict::Filed(number) => write!(f, "filed {number}"),
+            Verdict::Twin(number) => write!(f, "twin {number}"),
+            Verdict::Refused(fault) => {
+                let number = fault.report().number;
+                write!(f, "refused {number}")
+            }
+        }
+    }
+}
+
+// Two holdings, and the length of the earliest text that distinguishes them.
+#[derive(Clone, Copy)]
 pub struct Pair {
     pub first: usize,
     pub second: usize,
+    pub length: usize,
+}
+
+// A pair with that text.
+#[derive(Drop)]
+pub struct ToldPair {
+    pub pair: Pair,
     pub text: Vec<u32>,
 }
 

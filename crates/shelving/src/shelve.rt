@@ -8,7 +8,7 @@ ghost use Rattle.shelving.specs.Shelving.{Shelving, Shelves};
 
 use crate::filing::file_bodies;
 use crate::pair_texts::tell_pairs;
-use crate::report::{Pair, Verdict};
+use crate::report::{ToldPair, Verdict};
 use alphabet::Alphabet;
 use holdings::Shelf;
 use shelf::open::open;
@@ -19,7 +19,7 @@ use steps::Step;
 #[derive(Drop)]
 pub struct Shelved {
     pub verdicts: Vec<Verdict>,
-    pub pairs: Vec<Pair>,
+    pub pairs: Vec<ToldPair>,
 }
 
 // Why nothing was filed.

@@ -4,7 +4,7 @@ ghost use Rattle.alphabet.specs.Model.{SoundGuard};
 ghost use Rattle.table.specs.Results.{map_err};
 ghost use Rattle.table.specs.declared.fault.TableFault.TheVariants.{UnsoundOutput};
 ghost use Rattle.table.specs.Table.{table_of, final_total_of, rule_total_of};
-ghost use Rattle.table.specs.Check.{each, limits_of, check_state_lem, check_rule_lem, check_final_lem, check_output_lem, check_rule_outputs_lem, check_overlaps_lem, clash, clashes, checked, SoundGuards};
+ghost use Rattle.table.specs.Check.{each, limits_of, check_state_lem, check_rule_lem, check_final_lem, check_output_lem, check_rule_outputs_lem, check_overlaps_lem, clash, checked, SoundGuards};
 ghost use Rattle.table.specs.Sound.{Sound};
 
 use crate::entries::{Draft, Owner, Rule, State};
@@ -186,30 +186,21 @@ fn do_clash<A: Alphabet>(earlier: Rule<A::Guard>, later: Rule<A::Guard>) -> bool
     earlier.state == later.state && least_shared::<A>(earlier.guard, later.guard).is_some()
 }
 
-// Whether a rule clashes with one of those before it.
-fn clashes<A: Alphabet>(rule: Rule<A::Guard>, earlier: &[Rule<A::Guard>]) -> bool
-    requires rule { SoundGuard A.model rule.guard }
-    requires earlier { SoundGuards A.model earlier.now }
-    ensures { result ≡ clashes A.model rule earlier.now }
-{
-    for other in earlier {
-        if do_clash::<A>(*other, rule) {
-            return true;
-        }
-    }
-    false
-}
-
+// Nested loops left by a label: both numbers are at hand where two rules clash, and the later one is named.
 fn check_overlaps<A: Alphabet>(rules: &[Rule<A::Guard>]) -> Result<(), TableFault>
     requires { SoundGuards A.model rules.now }
     ensures { result ≡ check_overlaps_lem A.model 0 [] rules.now }
 {
-    for (later, rule) in rules.iter().enumerate() {
-        if clashes::<A>(*rule, &rules[..later]) {
-            return Err(TableFault::Overlap(later));
+    let mut found = Ok(());
+    'pairs: for later in 0..rules.len() {
+        for earlier in 0..later {
+            if do_clash::<A>(rules[earlier], rules[later]) {
+                found = Err(TableFault::Overlap(later));
+                break 'pairs;
+            }
         }
     }
-    Ok(())
+    found
 }
 
 impl<'a, A: Alphabet> Draft<'a, A> {

@@ -2,6 +2,7 @@
 ghost use Rattle.std.specs.Prelude.{◌≡◌, Ok, IfOk};
 ghost use Rattle.table.specs.Table.{table_of};
 ghost use Rattle.table.specs.Check.{checked};
+ghost use Rattle.table.specs.Sound.{Sound};
 ghost use Rattle.table.specs.Results.{dropped};
 
 use crate::entries::Draft;
@@ -23,5 +24,13 @@ impl<'a, A: Alphabet> Filter<'a, A> {
     {
         draft.check()?;
         Ok(Filter { draft })
+    }
+
+    // The filter of a draft that is known to be sound, which costs nothing.
+    pub fn of_sound(draft: Draft<'a, A>) -> Filter<'a, A>
+        requires { Sound A.model (table_of draft) }
+        ensures { result.draft ≡ draft.entry }
+    {
+        Filter { draft }
     }
 }
