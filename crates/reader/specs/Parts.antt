@@ -8,6 +8,10 @@ use Rattle.stored_laws.specs.Format.{to_rules, to_outputs_lem, body_size, conten
 abbrev pub whole : List ℕ → Bool
 whole file = nat_le 2 (length file) && (nat_le (at file 1) 16 && (nat_le (bodies_at file) (length file) && file_size file == length file))
 
+-- how many bodies are handed out: all that a whole file has, and none of another
+abbrev pub number_of : List ℕ → ℕ
+number_of file = cond (whole file) (at file 1) 0
+
 -- the counts of the body behind i others
 abbrev pub counts_at_lem : List ℕ → ℕ → Entry
 counts_at_lem file i = slice_index_or (contents file) i (record { states = 0; rules = 0; outputs = 0 })

@@ -1,4 +1,7 @@
 // A reader and the bodies that it hands out, all borrowed from the file.
+ghost use Rattle.std.specs.Prelude.{◌≡◌, ◌<◌};
+ghost use Rattle.reader.specs.Parts.{body_at, number_of};
+
 use holdings::Entry;
 
 // Bytes of a file, and the place at which they begin.
@@ -23,9 +26,14 @@ pub struct Reader<'a> {
     pub(crate) file: &'a [u8],
 }
 
-// The bodies of a file that are still to be handed out, behind those that were.
+// The bodies of a file that are still to be handed out, behind those that were: how many there are in all, and where the
+// next one begins, so that each turn reads the counts of one body alone.
 #[derive(Drop)]
 pub struct Bodies<'a> {
     pub(crate) reader: Reader<'a>,
     pub(crate) given: usize,
+    pub(crate) count: usize,
+    pub(crate) place: usize,
+    ghost counted: { count ≡ number_of reader.file.now },
+    ghost placed: { given < count → place ≡ body_at reader.file.now given },
 }
