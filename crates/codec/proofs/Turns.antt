@@ -1,5 +1,5 @@
 -- One turn of each loop over a run of records.
-use Rattle.std.proofs.Common.{◌≡◌, ℕ, suc, ◌+◌, ◌-◌, ◌*◌, ◌<◌, ◌≤◌, List, [], ◌∷◌, ◌++◌, length, get_or, take, drop, set, Some, None, Option, sym, ap, ◌∙◌, suc-mul, arith}
+use Rattle.std.proofs.Common.{◌≡◌, ℕ, suc, ◌+◌, ◌-◌, ◌*◌, ◌<◌, ◌≤◌, List, [], ◌∷◌, ◌++◌, length, get_or, take, drop, set, Some, None, Option, sym, ap, ◌∙◌, refl, suc-mul, arith}
 use borrow.Rule.Slice.PartMut.{put_mid}
 use Rattle.std.proofs.lemmas.Nat.{mul-le}
 use Rattle.std.proofs.lemmas.List.{flat_map_more, length-take-le, take_more}
@@ -18,18 +18,25 @@ next_at i w = let e : i + 1 ≡ suc i = omega arith in omega (arith, suc-mul i w
 
 module _ {X : Type 0} (c : Code X) where
   -- one record more read
-  pub fill_more : (xs list : List X) (i k : ℕ) (bs rest : List ℕ) (y : X) → i < length xs → k ≡ c.width → rest ≡ drop (i * c.width) bs → list ≡ over xs 0 (records c i bs) → y ≡ c.meaning (take k rest) → set list i y ≡ over xs 0 (records c (i + 1) bs)
-  fill_more xs list i k bs rest y within width place e read =
+  pub fill_more : (xs list : List X) (from i at k : ℕ) (bs : List ℕ) (y : X) → from + i < length xs → at ≡ i * c.width → k ≡ c.width → list ≡ over xs from (records c i bs) → y ≡ c.meaning (take k (drop at bs)) → set list (from + i) y ≡ over xs from (records c (i + 1) bs)
+  fill_more xs list from i at k bs y within place width e read =
       let rs = records c i bs in
       let n = records_length c i bs in
-      let size : length (over xs 0 rs) ≡ length xs = length_over xs 0 rs (omega arith) in
+      let size : length (over xs from rs) ≡ length xs = length_over xs from rs (omega arith) in
       let is : y ≡ c.meaning (take c.width (drop (i * c.width) bs))
-      = read ∙ ap (λ m. c.meaning (take m rest)) width ∙ ap (λ l. c.meaning (take c.width l)) place in
-      ap (λ l. set l i y) e
-      ∙ set_over (over xs 0 rs) i y (omega arith)
-      ∙ over_more xs 0 rs (y ∷ []) i (omega arith) (omega arith)
-      ∙ ap (λ z. over xs 0 (rs ++ (z ∷ []))) is
-      ∙ ap (over xs 0) (sym (records_more c i bs))
+      = read ∙ ap (λ m. c.meaning (take m (drop at bs))) width ∙ ap (λ m. c.meaning (take c.width (drop m bs))) place in
+      ap (λ l. set l (from + i) y) e
+      ∙ set_over (over xs from rs) (from + i) y (omega arith)
+      ∙ over_more xs from rs (y ∷ []) (from + i) (omega arith) (omega arith)
+      ∙ ap (λ z. over xs from (rs ++ (z ∷ []))) is
+      ∙ ap (over xs from) (sym (records_more c i bs))
+
+  -- the same from the front of a list on, read from the bytes that are left
+  pub fill_next : (xs list : List X) (i k : ℕ) (bs rest : List ℕ) (y : X) → i < length xs → k ≡ c.width → rest ≡ drop (i * c.width) bs → list ≡ over xs 0 (records c i bs) → y ≡ c.meaning (take k rest) → set list i y ≡ over xs 0 (records c (i + 1) bs)
+  fill_next xs list i k bs rest y within width place e read =
+      let front : 0 + i ≡ i = omega arith in
+      ap (λ n. set list n y) (sym front)
+      ∙ fill_more xs list 0 i (i * c.width) k bs y (omega arith) refl width e (read ∙ ap (λ l. c.meaning (take k l)) place)
 
   -- one record more written
   pub put_more : Exact c → (xs out : List ℕ) (list : List X) (from i at k : ℕ) (x : X) (new : List ℕ) → i < length list → from + length list * c.width ≤ length xs → at ≡ from + i * c.width → k ≡ c.width → x ≡ get_or list i x → out ≡ over xs from (image_all c (take i list)) → new ≡ c.image x → put_mid at k out new ≡ over xs from (image_all c (take (i + 1) list))

@@ -64,9 +64,9 @@ impl Record for State {
 }
 
 impl<G: GuardRecord> Record for Rule<G> {
-    ghost code = { rule_code G.Record.code };
+    ghost code = { rule_code G.GuardRecord.code };
 
-    ghost laws = { rule_exact G.Record.code G.Record.laws G.GuardRecord.wide G.GuardRecord.free };
+    ghost laws = { rule_exact G.GuardRecord.code G.GuardRecord.laws G.GuardRecord.wide G.GuardRecord.free };
 
     fn width() -> usize {
         14

@@ -19,6 +19,9 @@ pub trait Record: Copy {
     // Its bytes, and what bytes mean.
     ghost code: { Code Self };
 
+    // That reading undoes writing, and writing reading.
+    ghost laws: { Exact code };
+
     // How many bytes it has.
     fn width() -> usize
         ensures { result ≡ code.width };
@@ -38,16 +41,29 @@ pub trait Record: Copy {
     fn wrong(bytes: &[u8]) -> Option<usize>
         requires { length bytes.now ≡ code.width }
         ensures { result ≡ code.wrong bytes.now };
-
-    // That reading undoes writing, and writing reading.
-    ghost laws: { Exact code };
 }
 
 // A guard. It is stored in eight bytes, and all eight bytes are the bytes of a guard.
-pub trait GuardRecord: Record {
-    ghost wide: { Self.code.width ≡ 8 };
+pub trait GuardRecord: Copy {
+    // Its bytes, and what bytes mean.
+    ghost code: { Code Self };
 
-    ghost free: { Free Self.code };
+    // That reading undoes writing, and writing reading.
+    ghost laws: { Exact code };
+
+    ghost wide: { code.width ≡ 8 };
+
+    ghost free: { Free code };
+
+    // The guard that bytes mean.
+    fn read(bytes: &[u8]) -> Self
+        requires { length bytes.now ≡ 8 }
+        ensures { result ≡ code.meaning bytes.now };
+
+    // Puts its bytes into a slice.
+    fn write(self, out: &mut [u8])
+        requires { length out.old ≡ 8 }
+        ensures { out.new ≡ code.image self };
 }
 
 // An alphabet whose filters can be stored: guards in eight bytes, terms in five.
@@ -63,6 +79,6 @@ where
     fn byte() -> u8
         ensures byte { result ≡ number }
         ensures term_width { Self.Term.Record.code.width ≡ 5 }
-        ensures guards { (g : Self.Guard) → SoundGuard Self.Alphabet.model g → Self.Guard.Record.code.fits g ≡ true }
+        ensures guards { (g : Self.Guard) → SoundGuard Self.Alphabet.model g → Self.Guard.GuardRecord.code.fits g ≡ true }
         ensures terms { (t : Self.Term) → SoundTerm Self.Alphabet.model t → Self.Term.Record.code.fits t ≡ true };
 }

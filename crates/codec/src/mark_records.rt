@@ -9,14 +9,14 @@ use marks::{MarkSet, MarkTerm, Marks};
 // The byte that names the alphabet in a file.
 const MARKS_NUMBER: u8 = 3;
 
-impl Record for MarkSet {
+impl GuardRecord for MarkSet {
     ghost code = { set_code };
 
     ghost laws = { set_exact };
 
-    fn width() -> usize {
-        8
-    }
+    ghost wide = { refl };
+
+    ghost free = { set_free };
 
     fn read(bytes: &[u8]) -> MarkSet {
         MarkSet {
@@ -29,16 +29,6 @@ impl Record for MarkSet {
     fn write(self, out: &mut [u8]) {
         out.copy_from_slice(&self.bits.to_be_bytes());
     }
-
-    fn wrong(_bytes: &[u8]) -> Option<usize> {
-        None
-    }
-}
-
-impl GuardRecord for MarkSet {
-    ghost wide = { refl };
-
-    ghost free = { set_free };
 }
 
 impl Record for MarkTerm {

@@ -11,14 +11,14 @@ const BYTES_NUMBER: u8 = 1;
 
 const CODE_POINTS_NUMBER: u8 = 2;
 
-impl Record for Range {
+impl GuardRecord for Range {
     ghost code = { range_code };
 
     ghost laws = { range_exact };
 
-    fn width() -> usize {
-        8
-    }
+    ghost wide = { refl };
+
+    ghost free = { range_free };
 
     fn read(bytes: &[u8]) -> Range {
         Range {
@@ -32,16 +32,6 @@ impl Record for Range {
         let [e, f, g, h] = self.high.to_be_bytes();
         out.copy_from_slice(&[a, b, c, d, e, f, g, h]);
     }
-
-    fn wrong(_bytes: &[u8]) -> Option<usize> {
-        None
-    }
-}
-
-impl GuardRecord for Range {
-    ghost wide = { refl };
-
-    ghost free = { range_free };
 }
 
 impl Record for RangeTerm {

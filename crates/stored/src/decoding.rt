@@ -67,7 +67,7 @@ where
     requires outputs { shelf.old.head.outputs + body.counts.outputs ≤ length shelf.old.outputs.now }
     requires full { Full body }
     requires five { A.Term.Record.code.width ≡ 5 }
-    ensures { memory_of shelf.new ≡ appended (memory_of shelf.old) (body_table A.Guard.Record.code A.Term.Record.code body.entry) }
+    ensures { memory_of shelf.new ≡ appended (memory_of shelf.old) (body_table A.Guard.GuardRecord.code A.Term.Record.code body.entry) }
 {
     let head = shelf.head;
     let counts = body.counts;
@@ -98,9 +98,9 @@ where
     A::Guard: GuardRecord,
     A::Term: Record,
     requires file { whole reader.now.file.now ≡ true }
-    requires room { room_of (memory_of shelf.old) (tables_of_file A.Guard.Record.code A.Term.Record.code reader.now.file.now) ≡ Ok tt }
+    requires room { room_of (memory_of shelf.old) (tables_of_file A.Guard.GuardRecord.code A.Term.Record.code reader.now.file.now) ≡ Ok tt }
     requires five { A.Term.Record.code.width ≡ 5 }
-    ensures { memory_of shelf.new ≡ shelved (memory_of shelf.old) (tables_of_file A.Guard.Record.code A.Term.Record.code reader.now.file.now) }
+    ensures { memory_of shelf.new ≡ shelved (memory_of shelf.old) (tables_of_file A.Guard.GuardRecord.code A.Term.Record.code reader.now.file.now) }
 {
     shelf.head = Head::default();
     for body in reader.bodies() {
@@ -113,11 +113,11 @@ pub fn decode<A: Stored>(file: &[u8], shelf: &mut Shelf<'_, A>) -> Result<(), St
 where
     A::Guard: GuardRecord,
     A::Term: Record,
-    ensures answer { result ≡ decoded (memory_of shelf.old) (parsed A.Guard.Record.code A.Term.Record.code A.Stored.number file.now) }
-    ensures memory { memory_of shelf.new ≡ decoded_memory (memory_of shelf.old) (parsed A.Guard.Record.code A.Term.Record.code A.Stored.number file.now) }
-    ensures tables { (Fs : List (Table _ _)) → result ≡ Ok tt → (parsed A.Guard.Record.code A.Term.Record.code A.Stored.number file.now) ≡ Ok Fs → tables_of (memory_of shelf.new) ≡ Fs }
+    ensures answer { result ≡ decoded (memory_of shelf.old) (parsed A.Guard.GuardRecord.code A.Term.Record.code A.Stored.number file.now) }
+    ensures memory { memory_of shelf.new ≡ decoded_memory (memory_of shelf.old) (parsed A.Guard.GuardRecord.code A.Term.Record.code A.Stored.number file.now) }
+    ensures tables { (Fs : List (Table _ _)) → result ≡ Ok tt → (parsed A.Guard.GuardRecord.code A.Term.Record.code A.Stored.number file.now) ≡ Ok Fs → tables_of (memory_of shelf.new) ≡ Fs }
     ensures fits { result ≡ Ok tt → fitting (memory_of shelf.new) ≡ true }
-    ensures rewritten { (Fs : List (Table _ _)) → result ≡ Ok tt → (parsed A.Guard.Record.code A.Term.Record.code A.Stored.number file.now) ≡ Ok Fs → bytes_of A.Guard.Record.code A.Term.Record.code A.Stored.number Fs ≡ file.now }
+    ensures rewritten { (Fs : List (Table _ _)) → result ≡ Ok tt → (parsed A.Guard.GuardRecord.code A.Term.Record.code A.Stored.number file.now) ≡ Ok Fs → bytes_of A.Guard.GuardRecord.code A.Term.Record.code A.Stored.number Fs ≡ file.now }
     ensures keeps_on_refusal { (f : Refusal) → result ≡ Err f → memory_of shelf.new ≡ memory_of shelf.old }
 {
     let reader = Reader::open::<A>(file)?;

@@ -45,9 +45,9 @@ fn put_body<A: Stored>(out: &mut [u8], at: usize, view: Draft<'_, A>) -> usize
 where
     A::Guard: GuardRecord,
     A::Term: Record,
-    requires room { at + length (body_of A.Guard.Record.code A.Term.Record.code (table_of view)) ≤ length out.old }
-    ensures end { result ≡ at + length (body_of A.Guard.Record.code A.Term.Record.code (table_of view.entry)) }
-    ensures bytes { out.new ≡ over out.old at (body_of A.Guard.Record.code A.Term.Record.code (table_of view.entry)) }
+    requires room { at + length (body_of A.Guard.GuardRecord.code A.Term.Record.code (table_of view)) ≤ length out.old }
+    ensures end { result ≡ at + length (body_of A.Guard.GuardRecord.code A.Term.Record.code (table_of view.entry)) }
+    ensures bytes { out.new ≡ over out.old at (body_of A.Guard.GuardRecord.code A.Term.Record.code (table_of view.entry)) }
 {
     let rules = put(out, at, view.states);
     let outputs = put(out, rules, view.rules);
@@ -59,10 +59,10 @@ pub fn encode<A: Stored>(shelf: &Shelf<'_, A>, out: &mut [u8]) -> Result<usize, 
 where
     A::Guard: GuardRecord,
     A::Term: Record,
-    ensures answer { result ≡ encoded A.Alphabet.model A.Guard.Record.code A.Term.Record.code A.Stored.number (memory_of shelf.now) (length out.old) }
-    ensures bytes { out.new ≡ (if is_ok result then over out.old 0 (shelf_bytes A.Alphabet.model A.Guard.Record.code A.Term.Record.code A.Stored.number (memory_of shelf.now)) else out.old) }
-    ensures back { (n : ℕ) → result ≡ Ok n → parsed A.Guard.Record.code A.Term.Record.code A.Stored.number (take n out.new) ≡ Ok (tables_of (memory_of shelf.now)) }
-    ensures again { (n : ℕ) (file : List ℕ) → result ≡ Ok n → Bytes file → parsed A.Guard.Record.code A.Term.Record.code A.Stored.number file ≡ Ok (tables_of (memory_of shelf.now)) → take n out.new ≡ file }
+    ensures answer { result ≡ encoded A.Alphabet.model A.Guard.GuardRecord.code A.Term.Record.code A.Stored.number (memory_of shelf.now) (length out.old) }
+    ensures bytes { out.new ≡ (if is_ok result then over out.old 0 (shelf_bytes A.Alphabet.model A.Guard.GuardRecord.code A.Term.Record.code A.Stored.number (memory_of shelf.now)) else out.old) }
+    ensures back { (n : ℕ) → result ≡ Ok n → parsed A.Guard.GuardRecord.code A.Term.Record.code A.Stored.number (take n out.new) ≡ Ok (tables_of (memory_of shelf.now)) }
+    ensures again { (n : ℕ) (file : List ℕ) → result ≡ Ok n → Bytes file → parsed A.Guard.GuardRecord.code A.Term.Record.code A.Stored.number file ≡ Ok (tables_of (memory_of shelf.now)) → take n out.new ≡ file }
     ensures keeps_on_refusal { (f : Refusal) → result ≡ Err f → out.new ≡ out.old }
 {
     shelf.check()?;

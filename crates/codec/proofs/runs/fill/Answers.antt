@@ -4,7 +4,7 @@ use Rattle.std.proofs.lemmas.List.{drop-drop, length-drop, length-take-le}
 use Rattle.codec_laws.specs.Lists.{records}
 use Rattle.codec_laws.proofs.Lists.{records_length}
 use Rattle.codec_laws.proofs.Overs.{over_all, part_over}
-use Rattle.codec.proofs.Turns.{next_at, fill_more}
+use Rattle.codec.proofs.Turns.{next_at, fill_next}
 use Rattle.codec.proofs.runs.fill.Goals as goal
 
 -- how many places there are
@@ -21,7 +21,7 @@ loop-place-preserved g c =
     let k = c.width-width.result in
     let next : i * code.width + k ≡ (i + 1) * code.width = omega (arith, next_at i code.width, c.width-width.ensures) in (
       c.split_at.ensures.back ∙ ap (drop k) rest ∙ drop-drop k (i * code.width) c.args.bytes.now ∙ ap (λ m. drop m c.args.bytes.now) next,
-      fill_more code _ c.loop-place.place-items i k c.args.bytes.now c.loop-place.rest.now c.read.result c.loop-place-test.true c.width-width.ensures rest c.loop-place.invariant.1 (c.read.ensures ∙ ap code.meaning c.split_at.ensures.front),
+      fill_next code _ c.loop-place.place-items i k c.args.bytes.now c.loop-place.rest.now c.read.result c.loop-place-test.true c.width-width.ensures rest c.loop-place.invariant.1 (c.read.ensures ∙ ap code.meaning c.split_at.ensures.front),
     )
 
 pub returns : goal.returns

@@ -12,7 +12,7 @@ use Rattle.stored.proofs.decoding.append_all.Goals as goal
 
 pub append_body-requires : goal.append_body-requires
 append_body-requires g c =
-    let guard = g.A.Guard.Record.code in
+    let guard = g.A.Guard.GuardRecord.code in
     let term = g.A.Term.Record.code in
     let file = c.args.reader.now.file.now in
     let b = c.in-Some.body in
@@ -31,7 +31,7 @@ append_body-requires g c =
 
 pub loop-body-preserved : goal.loop-body-preserved
 loop-body-preserved g c =
-    let guard = g.A.Guard.Record.code in
+    let guard = g.A.Guard.GuardRecord.code in
     let term = g.A.Term.Record.code in
     let file = c.args.reader.now.file.now in
     let b = c.in-Some.body in
@@ -49,7 +49,7 @@ loop-body-preserved g c =
 
 pub returns : goal.returns
 returns g c =
-    let guard = g.A.Guard.Record.code in
+    let guard = g.A.Guard.GuardRecord.code in
     let term = g.A.Term.Record.code in
     let file = c.args.reader.now.file.now in
     let i = c.loop-body.body-iterator.given in

@@ -12,5 +12,5 @@ invariant-loop-body g l =
     record {
       same : l.body-iterator.reader.file.now ≡ file;
       within : i ≤ at file 1;
-      memory : memory_of l.shelf ≡ shelved (memory_of l.initial.shelf) (take i (tables_of_file g.A.Guard.Record.code g.A.Term.Record.code file));
+      memory : memory_of l.shelf ≡ shelved (memory_of l.initial.shelf) (take i (tables_of_file g.A.Guard.GuardRecord.code g.A.Term.Record.code file));
     }

@@ -11,7 +11,7 @@ use Rattle.stored.proofs.decoding.decode.Goals as goal
 
 pub returns-in_err-check_room : goal.returns-in_err-check_room
 returns-in_err-check_room g c =
-    let guard = g.A.Guard.Record.code in
+    let guard = g.A.Guard.GuardRecord.code in
     let term = g.A.Term.Record.code in
     let k = g.A.Stored.number in
     let file = c.args.file.now in
@@ -35,7 +35,7 @@ returns-in_err-check_room g c =
 
 pub append_all-requires : goal.append_all-requires
 append_all-requires g c =
-    let guard = g.A.Guard.Record.code in
+    let guard = g.A.Guard.GuardRecord.code in
     let term = g.A.Term.Record.code in
     let k = g.A.Stored.number in
     let file = c.args.file.now in
@@ -54,7 +54,7 @@ append_all-requires g c =
 
 pub returns : goal.returns
 returns g c =
-    let guard = g.A.Guard.Record.code in
+    let guard = g.A.Guard.GuardRecord.code in
     let term = g.A.Term.Record.code in
     let k = g.A.Stored.number in
     let file = c.args.file.now in
@@ -68,10 +68,10 @@ returns g c =
     let room = sym (ap (room_for M) head) ∙ sym c.check_room.ensures ∙ c.in_ok-check_room.was in
     let means = read_parsed guard term k file x e in
     let bytes = All-from_get_or (λ b. b < 256) file 0 (λ i h. (c.type_inv.file i).fits) in
-    let laws = g.met.A.Guard.Record.laws in
-    let wide = g.met.A.Guard.GuardRecord.wide in
-    let free = g.met.A.Guard.GuardRecord.free in
-    let terms = g.met.A.Term.Record.laws in
+    let laws = g.A.Guard.GuardRecord.laws in
+    let wide = g.A.Guard.GuardRecord.wide in
+    let free = g.A.Guard.GuardRecord.free in
+    let terms = g.A.Term.Record.laws in
     record {
       answer = sym (ap (decoded M) means ∙ room);
       memory = c.append_all.ensures ∙ sym (ap (decoded_memory M) means ∙ ap (λ (r : Result Unit StoredFault). cond (is_ok r) (shelved M (tables_of_file guard term x)) M) room);

@@ -8,5 +8,5 @@ use Rattle.stored.proofs.encoding.encode.Given as goal
 
 abbrev pub invariant-loop-i : goal.invariant-loop-i
 invariant-loop-i g l =
-    let written = flat_map (body_of g.A.Guard.Record.code g.A.Term.Record.code) (take l.i (tables_of (memory_of l.shelf))) in
+    let written = flat_map (body_of g.A.Guard.GuardRecord.code g.A.Term.Record.code) (take l.i (tables_of (memory_of l.shelf))) in
     (l.at ≡ l.initial.at + length written) × (l.out ≡ over l.initial.out l.initial.at written)

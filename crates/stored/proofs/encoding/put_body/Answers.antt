@@ -8,27 +8,27 @@ use Rattle.stored.proofs.encoding.put_body.Goals as goal
 
 pub put-rules-requires : goal.put-rules-requires
 put-rules-requires g c =
-    let n = body_length g.A.Guard.Record.code g.A.Term.Record.code g.met.A.Guard.Record.laws g.met.A.Guard.GuardRecord.wide g.met.A.Guard.GuardRecord.free g.met.A.Term.Record.laws (table_of c.args.view) in
+    let n = body_length g.A.Guard.GuardRecord.code g.A.Term.Record.code g.A.Guard.GuardRecord.laws g.A.Guard.GuardRecord.wide g.A.Guard.GuardRecord.free g.A.Term.Record.laws (table_of c.args.view) in
     record { room = omega arith }
 
 pub put-outputs-requires : goal.put-outputs-requires
 put-outputs-requires g c =
-    let n = body_length g.A.Guard.Record.code g.A.Term.Record.code g.met.A.Guard.Record.laws g.met.A.Guard.GuardRecord.wide g.met.A.Guard.GuardRecord.free g.met.A.Term.Record.laws (table_of c.args.view) in
+    let n = body_length g.A.Guard.GuardRecord.code g.A.Term.Record.code g.A.Guard.GuardRecord.laws g.A.Guard.GuardRecord.wide g.A.Guard.GuardRecord.free g.A.Term.Record.laws (table_of c.args.view) in
     record { room = omega arith }
 
 pub put-requires : goal.put-requires
 put-requires g c =
-    let n = body_length g.A.Guard.Record.code g.A.Term.Record.code g.met.A.Guard.Record.laws g.met.A.Guard.GuardRecord.wide g.met.A.Guard.GuardRecord.free g.met.A.Term.Record.laws (table_of c.args.view) in
+    let n = body_length g.A.Guard.GuardRecord.code g.A.Term.Record.code g.A.Guard.GuardRecord.laws g.A.Guard.GuardRecord.wide g.A.Guard.GuardRecord.free g.A.Term.Record.laws (table_of c.args.view) in
     record { room = omega arith }
 
 pub returns : goal.returns
 returns g c =
-    let guard = g.A.Guard.Record.code in
+    let guard = g.A.Guard.GuardRecord.code in
     let term = g.A.Term.Record.code in
     let F = table_of c.args.view in
-    let n = body_length guard term g.met.A.Guard.Record.laws g.met.A.Guard.GuardRecord.wide g.met.A.Guard.GuardRecord.free g.met.A.Term.Record.laws F in
-    let s = states_size guard term g.met.A.Guard.Record.laws g.met.A.Guard.GuardRecord.wide g.met.A.Guard.GuardRecord.free g.met.A.Term.Record.laws F in
-    let r = rules_size guard term g.met.A.Guard.Record.laws g.met.A.Guard.GuardRecord.wide g.met.A.Guard.GuardRecord.free g.met.A.Term.Record.laws F in
+    let n = body_length guard term g.A.Guard.GuardRecord.laws g.A.Guard.GuardRecord.wide g.A.Guard.GuardRecord.free g.A.Term.Record.laws F in
+    let s = states_size guard term g.A.Guard.GuardRecord.laws g.A.Guard.GuardRecord.wide g.A.Guard.GuardRecord.free g.A.Term.Record.laws F in
+    let r = rules_size guard term g.A.Guard.GuardRecord.laws g.A.Guard.GuardRecord.wide g.A.Guard.GuardRecord.free g.A.Term.Record.laws F in
     record {
       end = omega arith;
       bytes = c.put.ensures.bytes
