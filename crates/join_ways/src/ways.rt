@@ -9,7 +9,7 @@ ghost use Rattle.join_ways.specs.Paths.{within, SoundSpan, along, raw_line, whol
 ghost use Rattle.join_ways.specs.Written.{Same};
 ghost use Rattle.join_ways.specs.Added.{Adds, lines};
 
-use crate::course::Course;
+pub use crate::course::Course;
 use crate::slice_vec::SliceVec;
 use crate::write::{MOST_AT_ONCE, Span, TooLarge, write_along};
 use alphabet::Alphabet;

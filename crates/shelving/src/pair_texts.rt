@@ -73,7 +73,7 @@ fn tell_row<A: Alphabet>(
         let pair = Pair {
             first,
             second,
-            length: text.len(),
+            length: text.as_slice().len(),
         };
         pairs.push(ToldPair { pair, text })?;
     }
