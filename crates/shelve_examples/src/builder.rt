@@ -4,7 +4,7 @@ use anyhow::anyhow;
 use codec::{GuardRecord, Record, Stored};
 use holdings::{Entry, Head, Shelf};
 use shelve_input::MOST_BYTES;
-use std::alloc::Global;
+use std::alloc::{AllocError, Global};
 use stored::{decode, encode};
 use table::{Draft, Rule, State};
 
@@ -93,4 +93,12 @@ where
         return Err(anyhow!("an example does not stay what it was"));
     }
     Ok(bytes)
+}
+
+const DIGITS: [u8; 16] = *b"0123456789ABCDEF";
+
+// Two hexadecimal digits: a format of each byte took a fifth of the whole run.
+pub fn push_hex(line: &mut String, byte: u8) -> Result<(), AllocError> {
+    line.push(DIGITS[(byte / 16) as usize] as char)?;
+    line.push(DIGITS[(byte % 16) as usize] as char)
 }

@@ -85,7 +85,7 @@ fn print_all(rt: &HostRuntime) -> anyhow::Result<()> {
         for row in bytes.as_slice().chunks(32) {
             let mut line = String::new(rt.alloc());
             for byte in row {
-                write!(line, "{byte:02X}")?;
+                builder::push_hex(&mut line, *byte)?;
             }
             println!(rt; "  {line}")?;
         }
